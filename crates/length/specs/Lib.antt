@@ -1,0 +1,5 @@
+pub mod Model
+pub mod Standard
+pub mod Walks
+pub mod Least
+pub mod Rounds

@@ -21,7 +21,13 @@ fn show(rt: &LibcRuntime, plan: &RingPlan, kind: StandardKind, arcs: &[u32]) -> 
 }
 
 pub fn try_rows(rt: &LibcRuntime) -> io::Result<()> {
-    let figures = Figures { weight: 4095, delay: 2, jitter: 3, charge: 4, capacity: 5 };
+    let figures = Figures {
+        weight: 4095,
+        delay: 2,
+        jitter: 3,
+        charge: 4,
+        capacity: 5,
+    };
     let Ok(plan) = RingPlan::new(3, figures) else {
         return Ok(());
     };

@@ -54,8 +54,16 @@ pub fn try_heads(rt: &LibcRuntime) -> io::Result<()> {
     show(rt, "of 64 sites and no arcs", &head(64, 0))?;
     show(rt, "of 65 sites", &head(65, 0))?;
     show(rt, "of 127 sites and 511 arcs", &head(127, 511))?;
-    show(rt, "of 64 sites and 256 arcs", &plain_sheet(64, 256)[0..2050])?;
-    show(rt, "of 64 sites and 257 arcs", &plain_sheet(64, 257)[0..2058])?;
+    show(
+        rt,
+        "of 64 sites and 256 arcs",
+        &plain_sheet(64, 256)[0..2050],
+    )?;
+    show(
+        rt,
+        "of 64 sites and 257 arcs",
+        &plain_sheet(64, 257)[0..2058],
+    )?;
     show(rt, "of 1 site and 257 arcs", &plain_sheet(1, 257)[0..2058])?;
     show(rt, "of 257 arcs and too few bytes", &head(64, 257))?;
     show(rt, "one byte short", &plain_sheet(64, 256)[0..2049])?;
@@ -76,13 +84,29 @@ fn second_arc(sites: u16, from: u8, to: u8) -> [u8; 18] {
 }
 
 pub fn try_arcs(rt: &LibcRuntime) -> io::Result<()> {
-    show(rt, "with an arc from 3 to 2 of 4 sites", &second_arc(4, 3, 2))?;
+    show(
+        rt,
+        "with an arc from 3 to 2 of 4 sites",
+        &second_arc(4, 3, 2),
+    )?;
     show(rt, "with an arc from 4 of 4 sites", &second_arc(4, 4, 2))?;
     show(rt, "with an arc to 4 of 4 sites", &second_arc(4, 2, 4))?;
-    show(rt, "with an arc from 63 to 63 of 4 sites", &second_arc(4, 63, 63))?;
+    show(
+        rt,
+        "with an arc from 63 to 63 of 4 sites",
+        &second_arc(4, 63, 63),
+    )?;
     show(rt, "with an arc from 2 to 2", &second_arc(4, 2, 2))?;
-    show(rt, "with an arc from 63 to 62 of 64 sites", &second_arc(64, 63, 62))?;
-    show(rt, "with an arc from 2 to 2, cut short", &second_arc(4, 2, 2)[0..17])?;
+    show(
+        rt,
+        "with an arc from 63 to 62 of 64 sites",
+        &second_arc(64, 63, 62),
+    )?;
+    show(
+        rt,
+        "with an arc from 2 to 2, cut short",
+        &second_arc(4, 2, 2)[0..17],
+    )?;
     let mut both = second_arc(2, 2, 2);
     both[3] = 0;
     show(rt, "with a fault in both arcs", &both)
@@ -110,22 +134,67 @@ fn show_fields(rt: &LibcRuntime, figures: Figures) -> io::Result<()> {
     let jitter = arc.jitter;
     let charge = arc.charge;
     let capacity = arc.capacity;
-    println!(rt, "field: arc 5 from {from} to {to}: {weight} {delay} {jitter} {charge} {capacity}")
+    println!(
+        rt,
+        "field: arc 5 from {from} to {to}: {weight} {delay} {jitter} {charge} {capacity}"
+    )
 }
 
 pub fn try_fields(rt: &LibcRuntime) -> io::Result<()> {
-    let least = Figures { weight: 0, delay: 0, jitter: 0, charge: 0, capacity: 0 };
+    let least = Figures {
+        weight: 0,
+        delay: 0,
+        jitter: 0,
+        charge: 0,
+        capacity: 0,
+    };
     show_fields(rt, least)?;
-    show_fields(rt, Figures { weight: 4095, ..least })?;
-    show_fields(rt, Figures { delay: 4095, ..least })?;
-    show_fields(rt, Figures { jitter: 1023, ..least })?;
-    show_fields(rt, Figures { charge: 1023, ..least })?;
-    show_fields(rt, Figures { capacity: 255, ..least })
+    show_fields(
+        rt,
+        Figures {
+            weight: 4095,
+            ..least
+        },
+    )?;
+    show_fields(
+        rt,
+        Figures {
+            delay: 4095,
+            ..least
+        },
+    )?;
+    show_fields(
+        rt,
+        Figures {
+            jitter: 1023,
+            ..least
+        },
+    )?;
+    show_fields(
+        rt,
+        Figures {
+            charge: 1023,
+            ..least
+        },
+    )?;
+    show_fields(
+        rt,
+        Figures {
+            capacity: 255,
+            ..least
+        },
+    )
 }
 
 // Writes a ring of three sites, 50 bytes, into a part of a buffer of 52 bytes 170, and prints what stands around its end.
 fn show_buffer(rt: &LibcRuntime, size: usize) -> io::Result<()> {
-    let figures = Figures { weight: 1, delay: 2, jitter: 3, charge: 4, capacity: 5 };
+    let figures = Figures {
+        weight: 1,
+        delay: 2,
+        jitter: 3,
+        charge: 4,
+        capacity: 5,
+    };
     let Ok(plan) = RingPlan::new(3, figures) else {
         return Ok(());
     };
@@ -144,7 +213,10 @@ fn show_buffer(rt: &LibcRuntime, size: usize) -> io::Result<()> {
     let first = buffer[0];
     let last = buffer[49];
     let after = buffer[50];
-    println!(rt, "; byte 0 is {first}, byte 49 is {last}, byte 50 is {after}")
+    println!(
+        rt,
+        "; byte 0 is {first}, byte 49 is {last}, byte 50 is {after}"
+    )
 }
 
 pub fn try_buffers(rt: &LibcRuntime) -> io::Result<()> {

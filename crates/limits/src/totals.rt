@@ -12,12 +12,22 @@ use network::RingPlan;
 use std::io;
 
 // Works the totals out into a part of a table of five places that hold 7, and prints the answer and all five.
-fn show<N: Network>(rt: &LibcRuntime, network: &N, kind: StandardKind, destination: u32, width: u32, places: usize) -> io::Result<()> {
+fn show<N: Network>(
+    rt: &LibcRuntime,
+    network: &N,
+    kind: StandardKind,
+    destination: u32,
+    width: u32,
+    places: usize,
+) -> io::Result<()> {
     if places > 5 {
         return Ok(());
     }
     let mut table = [Some(7); 5];
-    print!(rt, "totals to {destination} at width {width} in {places} places: ")?;
+    print!(
+        rt,
+        "totals to {destination} at width {width} in {places} places: "
+    )?;
     match least_totals(network, &kind, destination, width, &mut table[0..places]) {
         Ok(()) => print!(rt, "done,")?,
         Err(refusal) => {
@@ -35,7 +45,13 @@ fn show<N: Network>(rt: &LibcRuntime, network: &N, kind: StandardKind, destinati
 }
 
 pub fn try_totals(rt: &LibcRuntime) -> io::Result<()> {
-    let figures = Figures { weight: 4095, delay: 0, jitter: 3, charge: 4, capacity: 255 };
+    let figures = Figures {
+        weight: 4095,
+        delay: 0,
+        jitter: 3,
+        charge: 4,
+        capacity: 255,
+    };
     let Ok(plan) = RingPlan::new(4, figures) else {
         return Ok(());
     };

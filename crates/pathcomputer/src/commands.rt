@@ -73,7 +73,10 @@ fn decode(rt: &LibcRuntime, path: &str) -> Result<(), Failure> {
         print_arc(rt, &sheet, number)?;
     }
     let size = bytes.len();
-    println!(rt, "# read {path}: {sites} sites, {arcs} arcs, {size} bytes")?;
+    println!(
+        rt,
+        "# read {path}: {sites} sites, {arcs} arcs, {size} bytes"
+    )?;
     Ok(())
 }
 
@@ -89,7 +92,10 @@ fn print_arc(rt: &LibcRuntime, sheet: &Sheet, number: u32) -> Result<(), Failure
     let jitter = arc.jitter;
     let charge = arc.charge;
     let capacity = arc.capacity;
-    println!(rt, "arc {from} {to} {weight} {delay} {jitter} {charge} {capacity}")?;
+    println!(
+        rt,
+        "arc {from} {to} {weight} {delay} {jitter} {charge} {capacity}"
+    )?;
     Ok(())
 }
 
@@ -126,7 +132,13 @@ fn totals(rt: &LibcRuntime, path: &str, destination: &str, width: &str) -> Resul
     let sheet = Sheet::read(bytes.as_slice())?;
     let mut columns = [[None; 64]; 6];
     for column in 0..6 {
-        least_totals(&sheet, &KINDS[column], destination, width, &mut columns[column])?;
+        least_totals(
+            &sheet,
+            &KINDS[column],
+            destination,
+            width,
+            &mut columns[column],
+        )?;
     }
     println!(rt, "site  weight   delay  jitter  charge    hops   width")?;
     let sites = sheet.sites();
@@ -137,7 +149,10 @@ fn totals(rt: &LibcRuntime, path: &str, destination: &str, width: &str) -> Resul
             reached = reached.saturating_add(1);
         }
     }
-    println!(rt, "{reached} of {sites} sites have a way to site {destination} at width {width}")?;
+    println!(
+        rt,
+        "{reached} of {sites} sites have a way to site {destination} at width {width}"
+    )?;
     Ok(())
 }
 

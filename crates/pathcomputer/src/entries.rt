@@ -50,7 +50,10 @@ impl Table {
         if sites < 2 || sites > 64 {
             return Err(Fault::SitesOutside);
         }
-        Ok(Table { sites: sites as u8, arcs: Vec::new(heap) })
+        Ok(Table {
+            sites: sites as u8,
+            arcs: Vec::new(heap),
+        })
     }
 
     // Puts an arc at the end, or says why not.

@@ -43,7 +43,10 @@ pub impl fmt::Display for Fault as FaultDisplay {
             Fault::NoSuchSite => write!(f, "an arc begins or ends at a site that is not there"),
             Fault::SameSite => write!(f, "an arc ends at the site where it begins"),
             Fault::FigureOverLimit => {
-                write!(f, "a figure is over its limit (weight and delay 4095, jitter and charge 1023, capacity 255)")
+                write!(
+                    f,
+                    "a figure is over its limit (weight and delay 4095, jitter and charge 1023, capacity 255)"
+                )
             }
             Fault::NoMemory => write!(f, "out of memory"),
         }
@@ -75,9 +78,15 @@ pub enum Failure {
 pub impl fmt::Display for Failure as FailureDisplay {
     fn fmt<W: fmt::Write>(&self, f: &mut fmt::Formatter<W>) -> fmt::Result {
         match self {
-            Failure::Usage => write!(f, "no such command, or not its arguments: 'pathcomputer' alone prints the usage"),
+            Failure::Usage => write!(
+                f,
+                "no such command, or not its arguments: 'pathcomputer' alone prints the usage"
+            ),
             Failure::NotANumber => write!(f, "an argument is to be a number of at most 4294967295"),
-            Failure::Malformed { line, fault } => write!(f, "malformed table, line {line}: {fault}"),
+            Failure::Malformed { line, fault } => write!(
+                f,
+                "malformed table, line {line}: {fault}"
+            ),
             Failure::NoSites => write!(f, "malformed table: it has no line 'sites'"),
             Failure::Ring(refusal) => {
                 let number = refusal.number();

@@ -83,7 +83,10 @@ pub fn read_table(heap: Global, text: &str) -> Result<Table, Failure> {
     for line in text.lines() {
         number = number.saturating_add(1);
         if let Err(fault) = take_line(heap, &mut table, line) {
-            return Err(Failure::Malformed { line: number, fault });
+            return Err(Failure::Malformed {
+                line: number,
+                fault,
+            });
         }
     }
     match table {

@@ -1,17 +1,15 @@
 -- Arcs as numbers of 64 bits and as eight bytes.
 use mathlib.Core.List.{List, [], _∷_, _++_}
-use mathlib.Core.Path.{_≡_, refl, sym, ap, _∙_}
-use Prim.Native.Nat.{ℕ, zero, suc, _+_, _-_, _*_, _/_, _%_, _^_, _<_, _≤_}
+use mathlib.Core.Path.{_≡_, refl, ap, _∙_}
+use Prim.Native.Nat.{ℕ, _+_, _*_, _%_, _^_, _<_, _≤_}
 use native.Mathlib.Nat.{add-assoc}
 use native.Mathlib.Omega.{arith}
 use lib.ListN.{length, take, drop, getD, length-append}
-use Rattle.std.specs.shelf.Lists.{All}
 use Rattle.network.specs.declared.arc.Arc.{Arc}
 use Rattle.network.specs.Net.{ArcFits}
-use Rattle.sheet.specs.Bits.{bits, number, bits-of, bytes-of, field}
-use Rattle.sheet.specs.Layout.{arc-bits}
-use Rattle.sheet.specs.Words.{arc-word, word-field, arc-in-word}
-use Rattle.sheet.proofs.Rows.{Row, length-bits, row-bits, number-append, number-bits, number-bits-of}
+use Rattle.sheet.specs.Bits.{bits, number, bits-of, field}
+use Rattle.sheet.specs.Words.{arc-word, arc-in-word}
+use Rattle.sheet.proofs.Rows.{length-bits, number-append, number-bits, number-bits-of}
 use Rattle.sheet.proofs.Bytes.{Bytes, length-bits-of}
 use Rattle.sheet.proofs.Fields.{window, field-of-bytes}
 
@@ -52,7 +50,7 @@ word-eight bytes at small h =
     field-of-bytes 8 at bytes
     ∙ (ap value items
     ∙ value-eight (g at) (g (at + 1)) (g (at + 2)) (g (at + 3)) (g (at + 4)) (g (at + 5)) (g (at + 6)) (g (at + 7))
-      (small at, (small (at + 1), (small (at + 2), (small (at + 3), (small (at + 4), (small (at + 5), (small (at + 6), (small (at + 7), tt)))))))))
+    (small at, (small (at + 1), (small (at + 2), (small (at + 3), (small (at + 4), (small (at + 5), (small (at + 6), (small (at + 7), tt)))))))))
 
 -- the bits of a number as they stand in a longer row
 part : ℕ → ℕ → List ℕ
@@ -87,7 +85,7 @@ word-of-arc a =
     let weight = part 12 (a .weight) ++ delay in
     let to = part 6 (a .to) ++ weight in
     let of-capacity = number-part 8 (a .capacity) in
-    let of-charge = number-before 10 (a .charge) capacity 8 (simp (length-append, length-part)) in
+    let of-charge = number-before 10 (a .charge) capacity 8 (length-part 8 (a .capacity)) in
     let of-jitter = number-before 10 (a .jitter) charge 18 (simp (length-append, length-part)) in
     let of-delay = number-before 12 (a .delay) jitter 28 (simp (length-append, length-part)) in
     let of-weight = number-before 12 (a .weight) delay 40 (simp (length-append, length-part)) in

@@ -5,14 +5,14 @@ use mathlib.Core.Path.{_≡_, refl, sym, ap, _∙_}
 use Prim.Native.Nat.{ℕ, zero, suc, _+_, _-_, _*_, _/_, _%_, _^_, _<_, _≤_}
 use native.Mathlib.Nat.{mul-suc}
 use native.Mathlib.Omega.{arith}
-use lib.ListN.{length, take, drop, getD, length-append, length-take, length-drop, take-append-drop}
+use lib.ListN.{length, take, drop, getD, length-append, length-drop, take-append-drop}
 use lib.Seq.{take-append-add, drop-append-add, take-at, drop-at, length-take-le, take-append-le, drop-append-le, take-nil, drop-nil}
 use Rattle.std.specs.shelf.Lists.{All, joined}
 use Rattle.std.proofs.shelf.Elements.{all-append, all-take, all-drop}
 use Rattle.std.proofs.shelf.Lists.{getD-append-left, getD-append-right, nil-from-length}
 use Rattle.std.proofs.shelf.Tests.{cases-lt}
-use Rattle.sheet.specs.Bits.{bits, number, bits-of, bytes-of, field}
-use Rattle.sheet.proofs.Rows.{Row, length-bits, row-bits, getD-bits, number-bits-of, bits-number, number-take-lt}
+use Rattle.sheet.specs.Bits.{bits, number, bits-of, bytes-of}
+use Rattle.sheet.proofs.Rows.{Row, length-bits, row-bits, getD-bits, number-bits-of, bits-number}
 
 abbrev pub Bytes : List ℕ → Type 0
 Bytes bytes = All (λ b. b < 256) bytes
@@ -89,15 +89,15 @@ pub getD-bits-of : (bytes : List ℕ) (p : ℕ) → p < 8 * length bytes → get
 getD-bits-of [] p h = absurd (omega arith)
 getD-bits-of (b ∷ bytes) p h =
     ⊎-elim
-      (λ lt.
-        let q : p / 8 ≡ 0 = omega arith in
-        let r : p % 8 ≡ p = omega arith in
-        getD-append-left (bits 8 b) (bits-of bytes) 0 p (rw length-bits lt)
-        ∙ (getD-bits 8 b p lt ∙ sym (ap (λ k. getD (b ∷ bytes) k 0 / 2 ^ (7 - p % 8) % 2) q ∙ ap (λ k. b / 2 ^ (7 - k) % 2) r)))
-      (λ ge.
-        let q : p / 8 ≡ suc ((p - 8) / 8) = omega arith in
-        let r : p % 8 ≡ (p - 8) % 8 = omega arith in
-        getD-append-right (bits 8 b) (bits-of bytes) 8 p 0 (length-bits 8 b) ge
-        ∙ (getD-bits-of bytes (p - 8) (omega arith)
-        ∙ sym (ap (λ k. getD (b ∷ bytes) k 0 / 2 ^ (7 - p % 8) % 2) q ∙ ap (λ k. getD bytes ((p - 8) / 8) 0 / 2 ^ (7 - k) % 2) r)))
-      (cases-lt p 8)
+    (λ lt.
+    let q : p / 8 ≡ 0 = omega arith in
+    let r : p % 8 ≡ p = omega arith in
+    getD-append-left (bits 8 b) (bits-of bytes) 0 p (rw length-bits lt)
+    ∙ (getD-bits 8 b p lt ∙ sym (ap (λ k. getD (b ∷ bytes) k 0 / 2 ^ (7 - p % 8) % 2) q ∙ ap (λ k. b / 2 ^ (7 - k) % 2) r)))
+    (λ ge.
+    let q : p / 8 ≡ suc ((p - 8) / 8) = omega arith in
+    let r : p % 8 ≡ (p - 8) % 8 = omega arith in
+    getD-append-right (bits 8 b) (bits-of bytes) 8 p 0 (length-bits 8 b) ge
+    ∙ (getD-bits-of bytes (p - 8) (omega arith)
+    ∙ sym (ap (λ k. getD (b ∷ bytes) k 0 / 2 ^ (7 - p % 8) % 2) q ∙ ap (λ k. getD bytes ((p - 8) / 8) 0 / 2 ^ (7 - k) % 2) r)))
+    (cases-lt p 8)

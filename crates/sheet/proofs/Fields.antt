@@ -1,16 +1,14 @@
 -- Fields of a row of bytes: how large one is, one bit more, and a field within a longer one.
 use mathlib.Core.Bool.{Bool, true, false, cond}
-use mathlib.Core.List.{List, [], _∷_, _++_, map}
+use mathlib.Core.List.{List, _∷_, _++_, map}
 use mathlib.Core.Path.{_≡_, refl, sym, ap, _∙_}
 use Prim.Native.Nat.{ℕ, zero, suc, _+_, _-_, _*_, _/_, _%_, _^_, _<_, _≤_}
-use native.Mathlib.Nat.{add-assoc, pow-suc}
 use native.Mathlib.Omega.{arith}
 use lib.Dec.{leb, ltb}
-use lib.ListN.{length, take, drop, getD, length-append, length-take, length-drop, take-append-drop}
+use lib.ListN.{length, take, drop, getD, length-drop, take-append-drop}
 use lib.Pow.{pow-mono}
 use lib.Seq.{length-take-le, take-take, getD-drop}
 use Rattle.std.specs.Iters.{counting}
-use Rattle.std.specs.shelf.Lists.{All, folded}
 use Rattle.std.proofs.shelf.Elements.{all-take, all-drop}
 use Rattle.std.proofs.shelf.Lists.{drop-drop, drop-take, drop-more}
 use Rattle.std.proofs.shelf.Sums.{folded-more}
@@ -18,11 +16,11 @@ use Rattle.std.proofs.shelf.Tests.{and-parts, and-from, leb-true, ltb-true, le-
 use Rattle.std.specs.declared.option.Option.{Option}
 use Rattle.std.specs.declared.option.Option.the-variants.{Some, None}
 use Rattle.sheet.specs.declared.reader.Field.{Field}
-use Rattle.sheet.specs.Bits.{bits, number, bits-of, bytes-of, field}
+use Rattle.sheet.specs.Bits.{bits, number, bits-of, field}
 use Rattle.sheet.specs.Fields.{bits-there, bits-left, next-field, next-position, skip-position}
 use Rattle.sheet.specs.Steps.{field-at}
-use Rattle.sheet.proofs.Rows.{Row, length-bits, row-bits, number-append, number-bits-of, number-take-lt, number-middle, number-lt}
-use Rattle.sheet.proofs.Bytes.{Bytes, length-bits-of, row-bits-of, bits-of-take, bits-of-drop}
+use Rattle.sheet.proofs.Rows.{Row, number-take-lt, number-middle}
+use Rattle.sheet.proofs.Bytes.{length-bits-of, row-bits-of, bits-of-take, bits-of-drop}
 
 pub there-parts : (bytes : List ℕ) (p w : ℕ) → bits-there bytes p w ≡ true → (p + w < 2 ^ 32) × (p + w ≤ 8 * length bytes)
 there-parts bytes p w h =

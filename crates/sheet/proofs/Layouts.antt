@@ -1,20 +1,20 @@
 -- Where the fields of an arc stand in a sheet, and the bits of its arcs one after another.
 use mathlib.Core.List.{List, [], _∷_, _++_, map}
 use mathlib.Core.Path.{_≡_, refl, sym, ap, _∙_}
-use Prim.Native.Nat.{ℕ, zero, suc, _+_, _-_, _*_, _/_, _%_, _^_, _<_, _≤_}
+use Prim.Native.Nat.{ℕ, zero, suc, _+_, _*_, _/_, _%_, _^_, _<_, _≤_}
 use native.Mathlib.Nat.{mul-suc}
 use native.Mathlib.Omega.{arith}
-use lib.ListN.{length, take, drop, getD, length-append, length-take, length-drop, take-append-drop}
-use lib.Seq.{length-take-le, take-at, drop-at, drop-append-add, take-add, drop-nil}
+use lib.ListN.{length, take, drop, length-drop}
+use lib.Seq.{length-take-le, drop-append-add, take-add, drop-nil}
 use Rattle.std.specs.Iters.{counting}
-use Rattle.std.specs.shelf.Lists.{All, joined}
+use Rattle.std.specs.shelf.Lists.{joined}
 use Rattle.std.proofs.shelf.Elements.{all-append, all-take, all-drop}
-use Rattle.std.proofs.shelf.Lists.{drop-drop, drop-more}
+use Rattle.std.proofs.shelf.Lists.{drop-drop}
 use Rattle.network.specs.declared.arc.Arc.{Arc}
-use Rattle.sheet.specs.Bits.{bits, number, bits-of, bytes-of, field}
+use Rattle.sheet.specs.Bits.{bits, number, bits-of, field}
 use Rattle.sheet.specs.Layout.{arc-bits, arc-in}
 use Rattle.sheet.specs.Words.{arc-word, arc-in-word}
-use Rattle.sheet.proofs.Rows.{Row, length-bits, row-bits, bits-number}
+use Rattle.sheet.proofs.Rows.{Row, row-bits, bits-number}
 use Rattle.sheet.proofs.Bytes.{length-bits-of, row-bits-of}
 use Rattle.sheet.proofs.Fields.{field-within, field-lt}
 use Rattle.sheet.proofs.Arcs.{same-arc, word-again}

@@ -1,22 +1,22 @@
 -- A sheet in pieces: two bytes for its head, eight for each arc, and how a buffer comes to hold them.
 use mathlib.Core.List.{List, [], _∷_, _++_, append-assoc}
 use mathlib.Core.Path.{_≡_, refl, sym, ap, _∙_}
-use Prim.Native.Nat.{ℕ, zero, suc, _+_, _-_, _*_, _/_, _%_, _^_, _<_, _≤_}
+use Prim.Native.Nat.{ℕ, zero, suc, _+_, _*_, _/_, _%_, _^_, _<_, _≤_}
 use native.Mathlib.Omega.{arith}
-use lib.ListN.{length, take, drop, getD, length-append, length-take, length-drop, take-append-drop}
+use lib.ListN.{length, take, drop, getD, length-append, take-append-drop}
 use lib.Seq.{take-all, take-at, drop-at, length-take-le}
-use Rattle.std.specs.shelf.Lists.{All, joined}
+use Rattle.std.specs.shelf.Lists.{joined}
 use Rattle.std.proofs.shelf.Bits.{shr-shr}
 use Rattle.std.proofs.shelf.Lists.{drop-drop, take-more, joined-more}
 use Rattle.std.proofs.shelf.Tests.{le-ltb}
 use Rattle.std.specs.declared.result.Result.the-variants.{Ok}
 use Rattle.network.specs.declared.arc.Arc.{Arc}
 use Rattle.network.specs.Net.{Net, arc-count, no-arc}
-use Rattle.sheet.specs.Bits.{bits, number, bits-of, bytes-of}
-use Rattle.sheet.specs.Layout.{arc-bits, sheet-bits, sheet-of, sheet-size, write-answer}
+use Rattle.sheet.specs.Bits.{bits, number, bytes-of}
+use Rattle.sheet.specs.Layout.{arc-bits, sheet-of, sheet-size, write-answer}
 use Rattle.sheet.specs.Words.{arc-word}
 use Rattle.sheet.specs.Steps.{head-bytes, word-bytes, arcs-bytes}
-use Rattle.sheet.proofs.Rows.{Row, length-bits, row-bits, number-bits, number-append, number-bits-of, bits-number}
+use Rattle.sheet.proofs.Rows.{length-bits, row-bits, number-bits, number-append, number-bits-of, bits-number}
 use Rattle.sheet.proofs.Bytes.{length-joined, length-bytes-of, bytes-of-append}
 use Rattle.sheet.proofs.Layouts.{row-before, bits-of-word}
 
@@ -45,16 +45,16 @@ word-bytes-are w =
     let last : w / 1 % 256 ≡ w % 256 = omega arith in
     first-byte 7 w
     ∙ ap (λ bs. w / 2 ^ 56 % 256 ∷ bs)
-      (first-byte 6 w
-      ∙ ap (λ bs. w / 2 ^ 48 % 256 ∷ bs)
-        (first-byte 5 w
-        ∙ ap (λ bs. w / 2 ^ 40 % 256 ∷ bs)
-          (first-byte 4 w
-          ∙ ap (λ bs. w / 2 ^ 32 % 256 ∷ bs)
-            (first-byte 3 w
-            ∙ ap (λ bs. w / 2 ^ 24 % 256 ∷ bs)
-              (first-byte 2 w
-              ∙ ap (λ bs. w / 2 ^ 16 % 256 ∷ bs) (first-byte 1 w ∙ ap (λ bs. w / 2 ^ 8 % 256 ∷ bs) (first-byte 0 w ∙ ap (λ b. b ∷ []) last)))))))
+    (first-byte 6 w
+    ∙ ap (λ bs. w / 2 ^ 48 % 256 ∷ bs)
+    (first-byte 5 w
+    ∙ ap (λ bs. w / 2 ^ 40 % 256 ∷ bs)
+    (first-byte 4 w
+    ∙ ap (λ bs. w / 2 ^ 32 % 256 ∷ bs)
+    (first-byte 3 w
+    ∙ ap (λ bs. w / 2 ^ 24 % 256 ∷ bs)
+    (first-byte 2 w
+    ∙ ap (λ bs. w / 2 ^ 16 % 256 ∷ bs) (first-byte 1 w ∙ ap (λ bs. w / 2 ^ 8 % 256 ∷ bs) (first-byte 0 w ∙ ap (λ b. b ∷ []) last)))))))
 
 -- the head as one number of 16 bits
 pub head-bytes-are : (n m : ℕ) → n ≤ 64 → m ≤ 256 → head-bytes n m ≡ (n * 512 + m) / 256 % 256 ∷ (n * 512 + m) % 256 ∷ []

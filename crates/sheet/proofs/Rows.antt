@@ -2,14 +2,13 @@
 use mathlib.Core.List.{List, [], _∷_, _++_, append-assoc}
 use mathlib.Core.Path.{_≡_, refl, sym, ap, _∙_}
 use Prim.Native.Nat.{ℕ, zero, suc, _+_, _-_, _*_, _/_, _%_, _^_, _<_, _≤_}
-use native.Mathlib.Nat.{mod-lt, mod-eq-of-lt, pow-suc, mul-add, add-mul, mul-assoc, mul-comm}
-use native.Mathlib.Numerals.{one-add, add-one}
+use native.Mathlib.Nat.{mod-lt, mod-eq-of-lt, pow-suc, add-mul, mul-assoc}
 use native.Mathlib.Omega.{arith}
 use lib.Dec.{lit<}
-use lib.ListN.{length, take, drop, getD, length-append, length-take}
+use lib.ListN.{length, take, getD, length-take}
 use lib.Pow.{pow-mono}
 use Rattle.std.specs.shelf.Lists.{All, folded}
-use Rattle.std.proofs.shelf.Bits.{pow-pos, pow-add, mod-pow-add, shr-high, mod-low, mul-add-lt}
+use Rattle.std.proofs.shelf.Bits.{mod-pow-add, shr-high, mod-low, mul-add-lt}
 use Rattle.std.proofs.shelf.Elements.{all-take}
 use Rattle.sheet.specs.Bits.{bits, number}
 

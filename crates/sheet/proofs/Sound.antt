@@ -1,31 +1,30 @@
 -- What passes the checks is a network, and is written as the same bytes.
 use mathlib.Core.Bool.{Bool, true, false, cond, not, _||_}
-use mathlib.Core.List.{List, [], _∷_, _++_, map}
+use mathlib.Core.List.{List, _++_}
 use mathlib.Core.Path.{_≡_, refl, sym, ap, _∙_}
-use Prim.Native.Nat.{ℕ, zero, suc, _+_, _-_, _*_, _/_, _%_, _^_, _<_, _≤_}
+use Prim.Native.Nat.{ℕ, _+_, _*_, _<_, _≤_}
 use native.Mathlib.Omega.{arith}
 use lib.Dec.{eqb, ltb, leb}
-use lib.ListN.{length, take, drop, getD, length-append, length-drop, take-append-drop}
+use lib.ListN.{length, take, drop, length-drop, take-append-drop}
 use lib.Seq.{take-all, length-take-le}
 use Rattle.std.specs.Iters.{counting}
 use Rattle.std.specs.Results.{isOk}
 use Rattle.std.specs.declared.option.Option.{Option}
 use Rattle.std.specs.declared.option.Option.the-variants.{Some, None}
 use Rattle.std.specs.declared.result.Result.the-variants.{Ok, Err}
-use Rattle.std.specs.shelf.Lists.{All, joined}
-use Rattle.std.proofs.shelf.Counted.{length-counting, getD-counting, length-map-counting, getD-map-counting}
-use Rattle.std.proofs.shelf.Elements.{all-from-getD, all-map, all-take, all-drop}
+use Rattle.std.specs.shelf.Lists.{joined}
+use Rattle.std.proofs.shelf.Counted.{length-map-counting, getD-map-counting}
+use Rattle.std.proofs.shelf.Elements.{all-from-getD, all-take, all-drop}
 use Rattle.std.proofs.shelf.Lists.{drop-drop}
 use Rattle.std.proofs.shelf.Maps.{nth-getD, nth-past}
 use Rattle.std.proofs.shelf.Tests.{ltb-false, leb-false, eqb-false, eqb-true, or-parts, not-false, cond-false, le-ltb}
-use Rattle.network.specs.declared.arc.Arc.{Arc}
 use Rattle.network.specs.Checks.{Told, first-failed, answered, refusal, refusal-at}
-use Rattle.network.specs.Net.{Net, ArcFits, WellFormed, arc-count, arc-of, no-arc}
+use Rattle.network.specs.Net.{ArcFits, WellFormed, arc-count, arc-of, no-arc}
 use Rattle.sheet.specs.declared.reading.Head.{Head}
 use Rattle.sheet.specs.Bits.{bits, number, bits-of, bytes-of, field}
 use Rattle.sheet.specs.Layout.{arc-bits, sheet-bits, sheet-of, sheet-size, kept-bytes, arc-in, net-in, sites-in, arcs-in, arc-checks, read-checks, read-answer, from-position, to-position}
 use Rattle.sheet.specs.Steps.{head-in, head-checks, end-checks, field-at}
-use Rattle.sheet.proofs.Rows.{Row, bits-number}
+use Rattle.sheet.proofs.Rows.{bits-number}
 use Rattle.sheet.proofs.Bytes.{Bytes, length-bits-of, row-bits-of, bytes-of-bits-of}
 use Rattle.sheet.proofs.Fields.{field-lt}
 use Rattle.sheet.proofs.Passes.{passes, each-passes, ok-passes, append-fails, first-failed-append}
@@ -85,8 +84,8 @@ sound-formed bytes s =
       few-sites = s .few-sites;
       few-arcs = omega (arith, s .few-arcs);
       arcs-fit =
-        all-from-getD (ArcFits (sites-in bytes)) (net-in bytes .arcs) no-arc
-        (λ i h.
+          all-from-getD (ArcFits (sites-in bytes)) (net-in bytes .arcs) no-arc
+          (λ i h.
           let at = getD-map-counting (arc-in bytes) 0 m i i no-arc (omega arith) (omega arith) in
           let z : 0 + i ≡ i = omega arith in
           let pass = ap (λ k. first-failed (arc-checks bytes k)) (sym z) ∙ each-passes (arc-checks bytes) 0 m (s .arcs-pass) i (omega arith) in

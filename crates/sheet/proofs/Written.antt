@@ -1,17 +1,16 @@
 -- What is written of a network reads back as that network.
-use mathlib.Core.Bool.{Bool, true, false, cond, not, _||_}
+use mathlib.Core.Bool.{false, not, _||_}
 use mathlib.Core.List.{List, [], _∷_, _++_, map}
 use mathlib.Core.Path.{_≡_, refl, sym, ap, _∙_}
-use Prim.Native.Nat.{ℕ, zero, suc, _+_, _-_, _*_, _/_, _%_, _^_, _<_, _≤_}
+use Prim.Native.Nat.{ℕ, _+_, _*_, _<_, _≤_}
 use native.Mathlib.Omega.{arith}
 use lib.Dec.{eqb, ltb, leb}
-use lib.ListN.{length, take, drop, getD, length-append}
+use lib.ListN.{length, take, drop}
 use lib.Seq.{take-at, drop-append-add}
 use Rattle.std.specs.Iters.{counting}
-use Rattle.std.specs.declared.option.Option.{Option}
-use Rattle.std.specs.declared.option.Option.the-variants.{Some, None}
-use Rattle.std.specs.declared.result.Result.the-variants.{Ok, Err}
-use Rattle.std.specs.shelf.Lists.{All, joined}
+use Rattle.std.specs.declared.option.Option.the-variants.{None}
+use Rattle.std.specs.declared.result.Result.the-variants.{Ok}
+use Rattle.std.specs.shelf.Lists.{joined}
 use Rattle.std.proofs.shelf.Counted.{fill-by-all}
 use Rattle.std.proofs.shelf.Elements.{all-getD, all-append}
 use Rattle.std.proofs.shelf.Lists.{drop-more}
@@ -19,10 +18,10 @@ use Rattle.std.proofs.shelf.Tests.{le-ltb, lt-leb, ne-eqb, eq-eqb, or-from, not
 use Rattle.network.specs.declared.arc.Arc.{Arc}
 use Rattle.network.specs.Checks.{first-failed, answered, refusal, refusal-at}
 use Rattle.network.specs.Net.{Net, ArcFits, WellFormed, arc-count, arc-at, no-arc}
-use Rattle.sheet.specs.Bits.{bits, number, bits-of, bytes-of, field}
+use Rattle.sheet.specs.Bits.{bits, number, bits-of, field}
 use Rattle.sheet.specs.Layout.{arc-bits, sheet-bits, sheet-of, sheet-size, arc-in, net-in, sites-in, arcs-in, arc-checks, read-checks, read-answer, from-position, to-position}
 use Rattle.sheet.specs.Words.{arc-word, arc-in-word}
-use Rattle.sheet.proofs.Rows.{Row, length-bits, row-bits, number-bits-of}
+use Rattle.sheet.proofs.Rows.{Row, length-bits, number-bits-of}
 use Rattle.sheet.proofs.Bytes.{length-joined, length-bytes-of, bits-of-bytes-of}
 use Rattle.sheet.proofs.Arcs.{arc-again}
 use Rattle.sheet.proofs.Passes.{all-pass, joined-passes}

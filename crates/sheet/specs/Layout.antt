@@ -1,6 +1,6 @@
 -- The bits of a network sheet. First come the number of sites in 7 bits and of arcs in 9. Each arc then takes from 6,
 -- to 6, weight 12, delay 12, jitter 10, charge 10 and capacity 8 bits, without gaps.
-use mathlib.Core.Bool.{Bool, cond, not, _||_}
+use mathlib.Core.Bool.{cond, not, _||_}
 use mathlib.Core.List.{List, [], _∷_, _++_, map}
 use Prim.Native.Nat.{ℕ, _+_, _*_}
 use lib.Dec.{eqb, ltb, leb}
@@ -8,7 +8,6 @@ use lib.ListN.{length, take, drop}
 use Rattle.std.specs.Iters.{counting}
 use Rattle.std.specs.shelf.Lists.{joined}
 use Rattle.std.specs.declared.option.Option.{Option}
-use Rattle.std.specs.declared.option.Option.the-variants.{Some, None}
 use Rattle.std.specs.declared.result.Result.{Result}
 use Rattle.network.specs.declared.arc.Arc.{Arc}
 use Rattle.network.specs.Checks.{Check, Told, refusal, refusal-at, first-failed, answered}

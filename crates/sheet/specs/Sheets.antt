@@ -1,6 +1,4 @@
 -- What a value of the type Sheet means.
-use mathlib.Core.List.{List}
-use Prim.Native.Nat.{ℕ}
 use Rattle.network.specs.Net.{Net}
 use Rattle.sheet.specs.declared.sheet.Sheet.{Sheet}
 use Rattle.sheet.specs.Layout.{kept-bytes, net-in}

@@ -4,11 +4,10 @@ pub mod reader;
 pub mod reading;
 pub mod refusals;
 pub mod sheet;
-pub mod writing;
-mod words;
-
 #[cfg(test)]
 mod tests;
+mod words;
+pub mod writing;
 
 pub use questions::SheetNetwork;
 pub use refusals::ReadRefusal;

@@ -1,7 +1,9 @@
 // Sheets as networks.
 ghost use mathlib.Core.Path.{_≡_};
-ghost use Prim.Native.Nat.{_+_, _*_, _≤_};
+ghost use Prim.Native.Nat.{_+_, _*_, _<_, _≤_};
 ghost use lib.ListN.{length};
+ghost use Rattle.std.specs.declared.option.Option.the-variants.{Some};
+ghost use Rattle.network.specs.Net.{arc-of};
 ghost use Rattle.sheet.specs.Bits.{field};
 ghost use Rattle.sheet.specs.Sheets.{sheet-meaning};
 use super::sheet::Sheet;
@@ -26,6 +28,14 @@ fn word_at(bytes: &[u8], at: usize) -> u64
     ])
 }
 
+// The arc of a number that has one.
+fn arc_at(sheet: &Sheet, number: u32) -> Arc
+    requires { ⌜ number < now sheet .arcs ⌝ }
+    ensures { λ r. ⌜ Some r ≡ arc-of (sheet-meaning (now (sheet .entry))) number ⌝ }
+{
+    decode_arc(word_at(&sheet.bytes, 2 + 8 * number as usize))
+}
+
 pub impl Network for Sheet as SheetNetwork {
     ghost meaning = { sheet-meaning };
 
@@ -41,6 +51,6 @@ pub impl Network for Sheet as SheetNetwork {
         if number >= u32::from(self.arcs) {
             return None;
         }
-        Some(decode_arc(word_at(&self.bytes, 2 + 8 * number as usize)))
+        Some(arc_at(self, number))
     }
 }

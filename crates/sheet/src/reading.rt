@@ -39,7 +39,10 @@ fn read_head(reader: &mut BitReader) -> Option<Head>
     let Some(arcs) = reader.field(9) else {
         return None;
     };
-    Some(Head { sites: sites.value, arcs: arcs.value })
+    Some(Head {
+        sites: sites.value,
+        arcs: arcs.value,
+    })
 }
 
 // Checks the numbers in the head of a sheet of so many bytes.
@@ -113,7 +116,11 @@ fn keep(bytes: &[u8], head: Head) -> Sheet
     requires { ⌜ isOk (read-answer (now bytes)) ≡ true ⌝ ∗ ⌜ head .sites ≡ sites-in (now bytes) ⌝ ∗ ⌜ head .arcs ≡ arcs-in (now bytes) ⌝ }
     ensures { λ r. ⌜ kept-bytes (r .arcs) (r .bytes) ≡ now (bytes .entry) ⌝ }
 {
-    Sheet { bytes: copied(bytes), sites: head.sites as u8, arcs: head.arcs as u16 }
+    Sheet {
+        bytes: copied(bytes),
+        sites: head.sites as u8,
+        arcs: head.arcs as u16,
+    }
 }
 
 impl Sheet {

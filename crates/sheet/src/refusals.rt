@@ -54,7 +54,10 @@ pub impl fmt::Display for ReadRefusal as ReadRefusalDisplay {
             ReadRefusal::SitesOutside => write!(f, "a network has 2 to 64 sites"),
             ReadRefusal::TooManyArcs => write!(f, "a network has at most 256 arcs"),
             ReadRefusal::WrongByteCount => write!(f, "a sheet has 2 bytes and 8 for each arc"),
-            ReadRefusal::NoSuchSite { .. } => write!(f, "an arc begins or ends at a site that is not there"),
+            ReadRefusal::NoSuchSite { .. } => write!(
+                f,
+                "an arc begins or ends at a site that is not there"
+            ),
             ReadRefusal::SameSite { .. } => write!(f, "an arc ends at the site where it begins"),
         }
     }

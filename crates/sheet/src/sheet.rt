@@ -9,7 +9,7 @@ ghost use Rattle.sheet.specs.Layout.{kept-bytes, net-in, read-answer, sites-in
 // The most bytes that a sheet has: two, and eight for each of 256 arcs.
 pub(super) const MOST_BYTES: usize = 2050;
 
-// A network read from bytes, which it keeps in the first places of its own; the numbers in the head stand beside them.
+// A network read from bytes, of which it keeps a copy; the numbers in the head are kept beside them.
 #[derive(Clone, Copy)]
 pub struct Sheet {
     pub(super) bytes: [u8; MOST_BYTES],

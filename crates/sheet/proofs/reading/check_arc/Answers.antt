@@ -30,9 +30,9 @@ returns c =
     let end = passed-over bytes (now (c .field-2 .last .self .bytes)) (p + 12) (c .field-2 .last .self .position) 52 (c .skip-passed .last .self .position) same-2 (omega arith) rest (c .skip-passed .ensures .position) in
     record {
       told =
-        c .check-ends .ensures
-        ∙ (ap (λ f. first-failed (end-checks n f (c .unwrap-to .result))) (from ∙ ap (λ q. field-at bytes q 6) z)
-        ∙ ap (λ t. first-failed (end-checks n (field-at bytes p 6) t)) to);
+          c .check-ends .ensures
+          ∙ (ap (λ f. first-failed (end-checks n f (c .unwrap-to .result))) (from ∙ ap (λ q. field-at bytes q 6) z)
+          ∙ ap (λ t. first-failed (end-checks n (field-at bytes p 6) t)) to);
       position = omega arith;
       bytes = cc;
     }

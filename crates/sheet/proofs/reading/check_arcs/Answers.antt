@@ -1,6 +1,6 @@
 -- The checks of the arcs so far pass, and then come those of the next.
 use mathlib.Core.Path.{_≡_, sym, ap, _∙_}
-use Prim.Native.Nat.{_+_, _*_}
+use Prim.Native.Nat.{_+_}
 use native.Mathlib.Omega.{arith}
 use denote.Ref.{now}
 use Rattle.std.specs.Iters.{counting}
@@ -36,11 +36,10 @@ loop-i-again c =
     let z : 0 + i ≡ i = omega arith in
     let ens = c .in-Continue-check-arc .ensures tt in
     let same = ap now (inv .2) in
-    let here = arc-checks-are bytes (now (c .loop-i .reader .bytes)) (c .loop-i .reader .position) i (c .args .head .sites) same (inv .1) (c .pre .1 .1 .1) in
-    (
+    let here = arc-checks-are bytes (now (c .loop-i .reader .bytes)) (c .loop-i .reader .position) i (c .args .head .sites) same (inv .1) (c .pre .1 .1 .1) in (
       ap first-failed (joined-counting-more (arc-checks bytes) 0 i)
-      ∙ (first-failed-append (joined (arc-checks bytes) (counting 0 i)) (arc-checks bytes (0 + i)) (inv .0)
-      ∙ (ap (λ k. first-failed (arc-checks bytes k)) z ∙ sym (ens .told ∙ here))),
+          ∙ (first-failed-append (joined (arc-checks bytes) (counting 0 i)) (arc-checks bytes (0 + i)) (inv .0)
+          ∙ (ap (λ k. first-failed (arc-checks bytes k)) z ∙ sym (ens .told ∙ here))),
       omega arith,
       cc,
     )

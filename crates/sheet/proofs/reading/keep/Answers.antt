@@ -1,5 +1,5 @@
 -- The bytes that passed the checks have the size that their head says, so the sheet keeps all of them.
-use mathlib.Core.Path.{_≡_, sym, ap, _∙_}
+use mathlib.Core.Path.{sym, ap, _∙_}
 use native.Mathlib.Omega.{arith}
 use Rattle.std.specs.Results.{isOk}
 use Rattle.network.specs.Net.{arc-count}
@@ -14,8 +14,7 @@ copied-requires c κs =
 pub ghost-result : need.ghost-result
 ghost-result c =
     let e = kept-whole (c .args .bytes .now) (c .copied .result) (c .args .head .arcs) (c .pre .0) (c .pre .1 .1) (c .copied .ensures) in
-    let few = sound (c .args .bytes .now) (c .pre .0) .few-arcs in
-    (
+    let few = sound (c .args .bytes .now) (c .pre .0) .few-arcs in (
       omega arith,
       (ap (λ xs. isOk (read-answer xs)) e ∙ c .pre .0, (c .pre .1 .0 ∙ ap sites-in (sym e), (c .pre .1 .1 ∙ sym (ap (λ xs. arc-count (net-in xs)) e ∙ count-in (c .args .bytes .now)), tt))),
     )

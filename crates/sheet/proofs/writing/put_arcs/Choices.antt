@@ -2,7 +2,6 @@
 use Prim.Native.Nat.{_+_, _*_}
 use mathlib.Core.List.{_++_}
 use mathlib.Core.Path.{_≡_}
-use denote.Ref.{now}
 use lib.ListN.{take, drop}
 use Rattle.sheet.specs.Steps.{arcs-bytes}
 use Rattle.sheet.proofs.writing.put_arcs.Given as given

@@ -1,8 +1,6 @@
 -- The two bytes of a head stand before what was after them.
 use mathlib.Core.List.{_++_}
-use mathlib.Core.Path.{_≡_, sym, ap, _∙_}
-use Prim.Native.Nat.{_+_, _*_}
-use native.Mathlib.Omega.{arith}
+use mathlib.Core.Path.{_≡_, ap}
 use lib.ListN.{drop}
 use Rattle.sheet.specs.Steps.{head-bytes}
 use Rattle.sheet.proofs.Pieces.{head-bytes-are}

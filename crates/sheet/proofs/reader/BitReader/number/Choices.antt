@@ -1,7 +1,6 @@
 -- After some turns the value is the number in as many bits.
 use Prim.Native.Nat.{_+_}
 use mathlib.Core.Path.{_≡_}
-use lib.ListN.{take, drop}
 use denote.Ref.{now}
 use Rattle.sheet.specs.Bits.{field}
 use Rattle.sheet.proofs.reader.BitReader.number.Given as given

@@ -1,17 +1,15 @@
 -- Reading answers what the checks tell, and keeps the bytes as they came.
-use mathlib.Core.List.{List}
-use mathlib.Core.Path.{_≡_, refl, sym, ap, _∙_}
-use Prim.Native.Nat.{ℕ, _≤_, _<_}
+use mathlib.Core.Path.{_≡_, sym, ap, _∙_}
+use Prim.Native.Nat.{_<_}
 use native.Mathlib.Omega.{arith}
 use denote.Ref.{now}
-use lib.ListN.{length}
 use Rattle.std.specs.Results.{isOk}
 use Rattle.std.specs.declared.option.Option.the-variants.{Some, None}
 use Rattle.std.specs.declared.result.Result.the-variants.{Ok, Err}
 use Rattle.std.proofs.shelf.Elements.{all-from-getD}
 use Rattle.std.proofs.shelf.Results.{err-from-errBy, made-from-err}
 use Rattle.network.specs.Checks.{outcome}
-use Rattle.sheet.specs.Layout.{sheet-of, net-in, sites-in, arcs-in, read-answer, read-told}
+use Rattle.sheet.specs.Layout.{sheet-of, net-in, read-answer, read-told}
 use Rattle.sheet.specs.Sheets.{sheet-meaning}
 use Rattle.sheet.specs.Steps.{head-in}
 use Rattle.sheet.proofs.Sound.{sound, ok-answer, sound-writes-back, head-there, refused-head, by-arcs}
@@ -24,9 +22,9 @@ returns-in-Break-check-head c =
     let p = err-from-errBy (c .from-residual .result) (c .from-residual .ensures .1) in
     record {
       answer =
-        ap (outcome sheet-meaning read-told) (p .1)
-        ∙ (ap (λ e. Err (read-told e)) (p .2)
-        ∙ sym (refused-head bytes (c .in-Some .head) (there .0) (there .1) (there .2) (read-told (c .in-Break-check-head .field-0 .0)) (c .in-Break-check-head .ensures tt)));
+          ap (outcome sheet-meaning read-told) (p .1)
+          ∙ (ap (λ e. Err (read-told e)) (p .2)
+          ∙ sym (refused-head bytes (c .in-Some .head) (there .0) (there .1) (there .2) (read-told (c .in-Break-check-head .field-0 .0)) (c .in-Break-check-head .ensures tt)));
       writes-back = made-from-err (c .from-residual .result) (λ s. sheet-of (sheet-meaning s) ≡ bytes) (c .from-residual .ensures .0);
     }
 
@@ -38,9 +36,9 @@ returns-in-Break-check-arcs c =
     let p = err-from-errBy (c .from-residual-in-Break-check-arcs .result) (c .from-residual-in-Break-check-arcs .ensures .1) in
     record {
       answer =
-        ap (outcome sheet-meaning read-told) (p .1)
-        ∙ (ap (λ e. Err (read-told e)) (p .2)
-        ∙ sym (by-arcs bytes (c .in-Some .head) (there .0) (there .1) (there .2) (Some (read-told (c .in-Break-check-arcs .field-0 .0))) (now (c .read-head .last .reader .bytes)) same (c .in-Continue-check-head .ensures tt) (c .in-Break-check-arcs .ensures tt)));
+          ap (outcome sheet-meaning read-told) (p .1)
+          ∙ (ap (λ e. Err (read-told e)) (p .2)
+          ∙ sym (by-arcs bytes (c .in-Some .head) (there .0) (there .1) (there .2) (Some (read-told (c .in-Break-check-arcs .field-0 .0))) (now (c .read-head .last .reader .bytes)) same (c .in-Continue-check-head .ensures tt) (c .in-Break-check-arcs .ensures tt)));
       writes-back = made-from-err (c .from-residual-in-Break-check-arcs .result) (λ s. sheet-of (sheet-meaning s) ≡ bytes) (c .from-residual-in-Break-check-arcs .ensures .0);
     }
 

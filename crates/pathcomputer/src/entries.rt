@@ -5,7 +5,7 @@ ghost use mathlib.Core.Path.{_≡_};
 ghost use Prim.Native.Nat.{_≤_};
 ghost use Rattle.std.specs.Results.{isOk};
 ghost use Rattle.std.specs.Vec.{made};
-ghost use Rattle.pathcomputer.specs.Limits.{arc-fits};
+ghost use Rattle.network.specs.Limits.{arc-fits};
 ghost use Rattle.pathcomputer.specs.Tables.{arc-from, table-meaning, with-arc};
 use super::failure::Fault;
 use super::table::Table;

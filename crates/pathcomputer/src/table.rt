@@ -4,7 +4,7 @@ ghost use mathlib.Core.Path.{_≡_};
 ghost use Prim.Native.Nat.{_≤_};
 ghost use Rattle.std.specs.Of.Vec.{vec-items, vec-len};
 ghost use Rattle.network.specs.Lists.{all-of};
-ghost use Rattle.pathcomputer.specs.Limits.{arc-fits};
+ghost use Rattle.network.specs.Limits.{arc-fits};
 use network::Arc;
 
 // The sites and arcs that a table gives; they keep the limits of a network.

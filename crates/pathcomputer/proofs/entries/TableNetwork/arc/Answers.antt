@@ -1,7 +1,7 @@
 -- The arc of a number stands at its place in the list.
 use mathlib.Core.Path.{_∙_, subst, _≡_}
 use Rattle.std.specs.Of.Vec.{vec-items}
-use Rattle.pathcomputer.proofs.Fits.{found-at}
+use Rattle.pathcomputer.proofs.Kept.{found-at}
 use Rattle.pathcomputer.proofs.entries.TableNetwork.arc.Needs as need
 
 pub returns : need.returns

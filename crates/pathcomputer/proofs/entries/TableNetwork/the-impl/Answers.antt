@@ -1,6 +1,6 @@
 -- A table keeps the limits of a network.
 use native.Mathlib.Omega.{arith}
-use Rattle.pathcomputer.proofs.Fits.{all-fit}
+use Rattle.network.proofs.Fits.{all-fit}
 use Rattle.std.specs.Of.Vec.{vec-items}
 use Rattle.pathcomputer.proofs.entries.TableNetwork.the-impl.Needs as need
 

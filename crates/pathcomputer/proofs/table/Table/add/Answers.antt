@@ -2,8 +2,8 @@
 use native.Mathlib.Omega.{arith}
 use Rattle.std.specs.Of.Vec.{vec-items, vec-len}
 use Rattle.std.specs.Results.{isOk}
-use Rattle.pathcomputer.specs.Limits.{arc-fits}
-use Rattle.pathcomputer.proofs.Fits.{all-of-either, one-more}
+use Rattle.network.specs.Limits.{arc-fits}
+use Rattle.pathcomputer.proofs.Kept.{all-of-either, one-more}
 use Rattle.pathcomputer.proofs.table.Table.add.Needs as need
 
 pub ghost-self : need.ghost-self

@@ -1,0 +1,11 @@
+pub mod Runs
+pub mod Capacity
+pub mod Answers
+pub mod Listed
+pub mod Oversold
+pub mod Slips
+pub mod Prefix
+pub mod Agree
+pub mod Calm
+pub mod Kept
+pub mod Law

@@ -1,0 +1,11 @@
+pub mod Tests
+pub mod Sorting
+pub mod Standing
+pub mod Marks
+pub mod Blank
+pub mod Selling
+pub mod Turns
+pub mod Shown
+pub mod Sites
+pub mod Joins
+pub mod Holds

@@ -1,0 +1,11 @@
+pub mod Totals
+pub mod Routes
+pub mod Partial
+pub mod Lines
+pub mod Choice
+pub mod Work
+pub mod Enquire
+pub mod Rows
+pub mod Sizes
+pub mod Lent
+pub mod Listing

@@ -20,3 +20,4 @@ pub mod Progress
 pub mod Starts
 pub mod Works
 pub mod Listed
+pub mod Enquiries

@@ -21,7 +21,7 @@ use Rattle.length.specs.Walks.{sites-along, usable}
 use Rattle.length.proofs.Least.{T-true}
 use Rattle.routes.specs.declared.enquiry.Enquiry.{Enquiry}
 use Rattle.routes.specs.declared.line.Line.{Line}
-use Rattle.routes.specs.declared.line.Rests.{Rests}
+use Rattle.routes.specs.declared.filling.LentTables.{LentTables}
 use Rattle.routes.specs.Routes.{at-site, complete?, end-of, path?, some-site}
 use Rattle.routes.specs.Partial.{admissible?, partial?}
 use Rattle.routes.specs.Lines.{Asked, EndsInside, OnLine, RestsHold, following-arc, line-of, line-route, next-line, stretched-within, there}
@@ -41,7 +41,7 @@ followed net e line i arc q = go (usable net (e .width) i) (eqb (arc-at net i .f
 
 module _ {K L : Type 0} (model : K → Model L) (net : Net) (e : Enquiry K) (law : Lawful (model (e .kind))) (wf : WellFormed net) (asked : Asked net e) where
   -- the arc ends inside the tables
-  pub ends-inside : (rests : Rests L) → RestsHold model net e rests → (i : ℕ) (arc : Arc) → (i < arc-count net) × (arc ≡ arc-at net i) → EndsInside rests (arc .to)
+  pub ends-inside : (rests : LentTables L) → RestsHold model net e rests → (i : ℕ) (arc : Arc) → (i < arc-count net) × (arc ≡ arc-at net i) → EndsInside rests (arc .to)
   ends-inside rests hold i arc is =
       let below : arc .to < net .sites = subst (λ a. a .to < net .sites) (sym (is .1)) (all-getD (ArcFits (net .sites)) (net .arcs) i no-arc (is .0) (wf .arcs-fit) .to-site) in
       (omega (arith, hold .by-kind .0), omega (arith, hold .by-delay .0), omega (arith, hold .by-jitter .0), omega (arith, hold .by-charge .0), omega (arith, hold .by-hops .0))
@@ -80,7 +80,7 @@ module _ {K L : Type 0} (model : K → Model L) (net : Net) (e : Enquiry K) (law
           ∙ ap (λ n. length (line-route line) + n) (length-replicate (15 - length (line-route line)) 0) ∙ omega (arith, on-short)
 
       -- the next line, from whether the arc may follow
-      pub on-next : (rests : Rests L) → RestsHold model net e rests → (i : ℕ)
+      pub on-next : (rests : LentTables L) → RestsHold model net e rests → (i : ℕ)
           → next-line model net e (line-route line) i ≡ elim (following-arc net e line i) as (λ _. Option (Line L)) [
             | None ↦ None
             | Some arc ↦ stretched-within (model (e .kind)) e rests arc i line

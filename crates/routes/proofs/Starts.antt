@@ -17,13 +17,13 @@ use Rattle.length.specs.Standard.{capped-sum, standard}
 use Rattle.length.specs.Least.{least-total}
 use Rattle.routes.specs.declared.enquiry.Enquiry.{Enquiry}
 use Rattle.routes.specs.declared.line.Line.{Line}
-use Rattle.routes.specs.declared.line.Rests.{Rests}
+use Rattle.routes.specs.declared.filling.LentTables.{LentTables}
 use Rattle.routes.specs.Totals.{limits-of}
 use Rattle.routes.specs.Partial.{at-most, projected}
 use Rattle.routes.specs.Lines.{Asked, RestsHold, line-of, start-line, started, starts-within, writable?}
 use Rattle.routes.proofs.Steps.{and-true}
 
-module _ {K L : Type 0} (model : K → Model L) (net : Net) (e : Enquiry K) (asked : Asked net e) (rests : Rests L) (hold : RestsHold model net e rests) where
+module _ {K L : Type 0} (model : K → Model L) (net : Net) (e : Enquiry K) (asked : Asked net e) (rests : LentTables L) (hold : RestsHold model net e rests) where
   s : ℕ
   s = e .source
 

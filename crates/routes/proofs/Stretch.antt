@@ -28,7 +28,7 @@ use Rattle.length.proofs.Least.{to-below}
 use Rattle.length.proofs.Walks.{walk-push}
 use Rattle.routes.specs.declared.enquiry.Enquiry.{Enquiry}
 use Rattle.routes.specs.declared.line.Line.{Line}
-use Rattle.routes.specs.declared.line.Rests.{Rests}
+use Rattle.routes.specs.declared.filling.LentTables.{LentTables}
 use Rattle.routes.specs.Totals.{limits-of, total}
 use Rattle.routes.specs.Routes.{end-of}
 use Rattle.routes.specs.Partial.{admissible?, at-most, partial?, projected, projected-length}
@@ -100,7 +100,7 @@ module _ {K L : Type 0} (model : K → Model L) (net : Net) (e : Enquiry K) (law
         same-line (line-of model net e false (p ++ i ∷ [])) (stretched (model (e .kind)) (arc-at net i) i rest (line-of model net e b p)) long
         (ap (λ o. valueOr o (model (e .kind) .empty)) ahead) d j c arcs n (ap (λ o. valueOr o 0) ended) refl
 
-    module _ (rests : Rests L) (hold : RestsHold model net e rests) where
+    module _ (rests : LentTables L) (hold : RestsHold model net e rests) where
       -- the limits of the longer partial route, by the tables
       one-limit : (kind : StandardKind) (table : List (Option ℕ)) (limit : ℕ) → HoldsRests (standard kind) net (e .width) (e .destination) table
           → at-most (projected net e (standard kind) (p ++ i ∷ [])) limit
@@ -151,7 +151,7 @@ module _ {K L : Type 0} (model : K → Model L) (net : Net) (e : Enquiry K) (law
           ]) (sym (hold .by-kind .1 (arc-at net i .to) at-below))
 
   -- the next line, from whether the arc may follow
-  pub next-step : (rests : Rests L) → RestsHold model net e rests → (b : Bool) → partial? net e p ≡ true → eqb u (e .destination) ≡ false
+  pub next-step : (rests : LentTables L) → RestsHold model net e rests → (b : Bool) → partial? net e p ≡ true → eqb u (e .destination) ≡ false
       → next-line model net e p i ≡ elim (following-arc net e (line-of model net e b p) i) as (λ _. Option (Line L)) [
         | None ↦ None
         | Some arc ↦ stretched-within (model (e .kind)) e rests arc i (line-of model net e b p)

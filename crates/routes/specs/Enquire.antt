@@ -62,18 +62,21 @@ shorter-than n t =
     ltb (length (t .by-kind)) n || ltb (length (t .by-delay)) n || ltb (length (t .by-jitter)) n
     || ltb (length (t .by-charge)) n || ltb (length (t .by-hops)) n
 
+-- the checks before the work begins, with so many sites, a list of so many rows, and a table too short or none
+abbrev pub checks-before : {K : Type 0} → Enquiry K → ℕ → ℕ → Bool → List Check
+checks-before e sites rows short-table =
+    (leb sites (e .source) || leb sites (e .destination), refusal 20)
+    ∷ (eqb (e .source) (e .destination), refusal 21)
+    ∷ (eqb (e .width) 0, refusal 22)
+    ∷ (ltb (e .limits .hops) 1 || ltb 15 (e .limits .hops), refusal 23)
+    ∷ (ltb (e .wanted) 1 || ltb 32 (e .wanted), refusal 24)
+    ∷ (ltb rows (e .wanted), refusal 25)
+    ∷ (short-table, refusal 26)
+    ∷ []
+
 module _ {K L : Type 0} (model : K → Model L) (net : Net) (b : Brought K L) where
   abbrev pub early-checks : List Check
-  early-checks =
-      let e : Enquiry K = b .enquiry in
-      (leb (net .sites) (e .source) || leb (net .sites) (e .destination), refusal 20)
-      ∷ (eqb (e .source) (e .destination), refusal 21)
-      ∷ (eqb (e .width) 0, refusal 22)
-      ∷ (ltb (e .limits .hops) 1 || ltb 15 (e .limits .hops), refusal 23)
-      ∷ (ltb (e .wanted) 1 || ltb 32 (e .wanted), refusal 24)
-      ∷ (ltb (length (b .list)) (e .wanted), refusal 25)
-      ∷ (shorter-than (net .sites) (b .tables), refusal 26)
-      ∷ []
+  early-checks = checks-before (b .enquiry) (net .sites) (length (b .list)) (shorter-than (net .sites) (b .tables))
 
   -- the line count is above the notebook lines that count
   abbrev pub too-few-lines : Bool

@@ -19,7 +19,7 @@ use Rattle.length.specs.Walks.{sites-along, usable, walk-length}
 use Rattle.length.specs.Least.{least-total}
 use Rattle.routes.specs.declared.enquiry.Enquiry.{Enquiry}
 use Rattle.routes.specs.declared.line.Line.{Line}
-use Rattle.routes.specs.declared.line.Rests.{Rests}
+use Rattle.routes.specs.declared.filling.LentTables.{LentTables}
 use Rattle.routes.specs.Totals.{total}
 use Rattle.routes.specs.Routes.{end-of}
 use Rattle.routes.specs.Partial.{at-most, partial?, admissible?, projected-length}
@@ -39,7 +39,7 @@ HoldsRests m net width destination table =
 
 module _ {K L : Type 0} (model : K → Model L) (net : Net) (e : Enquiry K) where
   -- all five tables do
-  pub record RestsHold (rests : Rests L) : Type 0 where
+  pub record RestsHold (rests : LentTables L) : Type 0 where
     pub by-kind : HoldsRests (model (e .kind)) net (e .width) (e .destination) (now (rests .length))
     pub by-delay : HoldsRests (standard Delay) net (e .width) (e .destination) (now (rests .delay))
     pub by-jitter : HoldsRests (standard Jitter) net (e .width) (e .destination) (now (rests .jitter))
@@ -85,7 +85,7 @@ stretched m arc number rest line =
     }
 
 -- the four totals of a line that is one arc longer, each with the least that is to come, are within the limits
-abbrev pub fits-limits : {K L : Type 0} → Enquiry K → Rests L → Arc → Line L → Bool
+abbrev pub fits-limits : {K L : Type 0} → Enquiry K → LentTables L → Arc → Line L → Bool
 fits-limits e rests arc line =
     at-most (mapped (capped-sum (capped-sum (line .delay) (arc .delay))) (getD (now (rests .delay)) (arc .to) None)) (e .limits .delay)
     && (at-most (mapped (capped-sum (capped-sum (line .jitter) (arc .jitter))) (getD (now (rests .jitter)) (arc .to) None)) (e .limits .jitter)
@@ -93,7 +93,7 @@ fits-limits e rests arc line =
     && at-most (mapped (capped-sum (line .count + 1)) (getD (now (rests .hops)) (arc .to) None)) (e .limits .hops)))
 
 -- the line that is one arc longer, where the destination can be reached from its end within the limits
-abbrev pub stretched-within : {K L : Type 0} → Model L → Enquiry K → Rests L → Arc → ℕ → Line L → Option (Line L)
+abbrev pub stretched-within : {K L : Type 0} → Model L → Enquiry K → LentTables L → Arc → ℕ → Line L → Option (Line L)
 stretched-within m e rests arc number line =
     elim (getD (now (rests .length)) (arc .to) None) [
       | None ↦ None
@@ -101,7 +101,7 @@ stretched-within m e rests arc number line =
     ]
 
 -- a site is within the places of every table
-abbrev pub EndsInside : {L : Type 0} → Rests L → ℕ → Type 0
+abbrev pub EndsInside : {L : Type 0} → LentTables L → ℕ → Type 0
 EndsInside rests site =
     (site < length (now (rests .length))) × (site < length (now (rests .delay))) × (site < length (now (rests .jitter)))
     × (site < length (now (rests .charge))) × (site < length (now (rests .hops)))
@@ -144,7 +144,7 @@ start-line m source rest =
     }
 
 -- the least totals from a site are within the limits
-abbrev pub starts-within : {K L : Type 0} → Enquiry K → Rests L → ℕ → Bool
+abbrev pub starts-within : {K L : Type 0} → Enquiry K → LentTables L → ℕ → Bool
 starts-within e rests source =
     at-most (mapped (capped-sum 0) (getD (now (rests .delay)) source None)) (e .limits .delay)
     && (at-most (mapped (capped-sum 0) (getD (now (rests .jitter)) source None)) (e .limits .jitter)
@@ -152,7 +152,7 @@ starts-within e rests source =
     && at-most (mapped (capped-sum 0) (getD (now (rests .hops)) source None)) (e .limits .hops)))
 
 -- the line of the empty partial route, where the destination can be reached from the source within the limits
-abbrev pub started : {K L : Type 0} → Model L → Enquiry K → Rests L → Option (Line L)
+abbrev pub started : {K L : Type 0} → Model L → Enquiry K → LentTables L → Option (Line L)
 started m e rests =
     elim (getD (now (rests .length)) (e .source) None) [
       | None ↦ None

@@ -4,14 +4,11 @@ ghost use mathlib.Core.Path.{_≡_};
 ghost use Prim.Native.Nat.{_≤_, _<_, min};
 ghost use lib.ListN.{length};
 ghost use Rattle.std.specs.Options.{isSome};
-ghost use Rattle.std.specs.declared.option.Option.the-variants.{None};
 ghost use Rattle.network.specs.Checks.{first-failed, outcome};
 ghost use Rattle.network.specs.Copies.{copy-meaning};
-ghost use Rattle.routes.specs.Enquire.{early-checks, enquiry-answer, enquiry-outcome, enquiry-told, too-few-lines};
-ghost use Rattle.length.specs.declared.standard.StandardKind.the-variants.{Delay, Jitter, Charge, Hops};
-ghost use Rattle.length.specs.Standard.{standard};
+ghost use Rattle.routes.specs.Enquire.{early-checks, enquiry-answer, enquiry-told};
 ghost use Rattle.routes.specs.Lent.{brought, held-in, routes-answer, routes-list};
-ghost use Rattle.routes.specs.Lines.{Asked, HoldsRests};
+ghost use Rattle.routes.specs.Lines.{Asked, RestsHold};
 use super::checking::Sizes;
 use super::checking::early_refusal;
 use super::enquiry::Enquiry;
@@ -20,7 +17,6 @@ use super::enquiry::RouteRow;
 use super::filling::LentTables;
 use super::filling::fill_tables;
 use super::line::Line;
-use super::line::Rests;
 use super::listing::list_rows;
 use super::refusals::EnquiryRefusal;
 use super::taking::take_lines;
@@ -39,36 +35,21 @@ fn shortest<L>(tables: &LentTables<'_, L>) -> usize
 }
 
 // Takes lines and lists the routes, once the tables are filled.
-fn find_routes<'a, K: Kind>(
+fn find_routes<K: Kind>(
     network: &NetworkCopy,
     enquiry: &Enquiry<K>,
-    by_kind: &'a [Option<K::Length>],
-    delay: &'a [Option<u32>],
-    jitter: &'a [Option<u32>],
-    charge: &'a [Option<u32>],
-    hops: &'a [Option<u32>],
+    tables: &LentTables<'_, K::Length>,
     notebook: &mut [Line<K::Length>],
     list: &mut [RouteRow],
 ) -> Result<Found, EnquiryRefusal>
     requires asked { ⌜ Asked (copy-meaning (now network)) (now enquiry) ⌝ }
-    requires by_kind { ⌜ HoldsRests (K·Kind .model (now enquiry .kind)) (copy-meaning (now network)) (now enquiry .width) (now enquiry .destination) (now «by_kind») ⌝ }
-    requires delay { ⌜ HoldsRests (standard Delay) (copy-meaning (now network)) (now enquiry .width) (now enquiry .destination) (now delay) ⌝ }
-    requires jitter { ⌜ HoldsRests (standard Jitter) (copy-meaning (now network)) (now enquiry .width) (now enquiry .destination) (now jitter) ⌝ }
-    requires charge { ⌜ HoldsRests (standard Charge) (copy-meaning (now network)) (now enquiry .width) (now enquiry .destination) (now charge) ⌝ }
-    requires hops { ⌜ HoldsRests (standard Hops) (copy-meaning (now network)) (now enquiry .width) (now enquiry .destination) (now hops) ⌝ }
+    requires tables { ⌜ RestsHold (K·Kind .model) (copy-meaning (now network)) (now enquiry) (now tables) ⌝ }
     requires list { ⌜ now enquiry .wanted ≤ length (now list) ⌝ }
     ensures answer { λ r. ⌜ outcome (λ x. x) enquiry-told r ≡ routes-answer (K·Kind .model) (copy-meaning (now (network .entry))) (now (enquiry .entry)) (length (now (notebook .entry))) ⌝ }
     ensures list { λ _. ⌜ now (list .exit) ≡ routes-list (K·Kind .model) (copy-meaning (now (network .entry))) (now (enquiry .entry)) (length (now (notebook .entry))) (now (list .entry)) ⌝ }
 {
-    let rests = Rests {
-        length: by_kind,
-        delay,
-        jitter,
-        charge,
-        hops,
-    };
     let lines = notebook.len().min(4096);
-    let Some(work) = take_lines(network, enquiry, &rests, notebook, lines) else {
+    let Some(work) = take_lines(network, enquiry, tables, notebook, lines) else {
         return Err(EnquiryRefusal::TooFewLines);
     };
     list_rows(&*notebook, &work, list);
@@ -76,4 +57,31 @@ fn find_routes<'a, K: Kind>(
         routes: work.routes as u32,
         lines: work.lines as u32,
     })
+}
+
+// The shortest feasible routes of a network: the checks, the five tables, the work and the list. Refused with 20 to 26, and
+// then nothing is changed, or with 27, and then the tables are filled.
+pub(super) fn enquire<N: Network, K: Kind>(
+    network: &N,
+    enquiry: &Enquiry<K>,
+    tables: &mut LentTables<'_, K::Length>,
+    notebook: &mut [Line<K::Length>],
+    list: &mut [RouteRow],
+) -> Result<Found, EnquiryRefusal>
+    ensures answer { λ r. ⌜ outcome (λ x. x) enquiry-told r ≡ enquiry-answer (K·Kind .model) (N·Network .meaning (now (network .entry))) (brought (now (enquiry .entry)) (now (tables .entry)) (now (list .entry)) (length (now (notebook .entry)))) .result ⌝ }
+    ensures tables { λ _. ⌜ held-in (now (tables .exit)) ≡ enquiry-answer (K·Kind .model) (N·Network .meaning (now (network .entry))) (brought (now (enquiry .entry)) (now (tables .entry)) (now (list .entry)) (length (now (notebook .entry)))) .tables ⌝ }
+    ensures list { λ _. ⌜ now (list .exit) ≡ enquiry-answer (K·Kind .model) (N·Network .meaning (now (network .entry))) (brought (now (enquiry .entry)) (now (tables .entry)) (now (list .entry)) (length (now (notebook .entry)))) .list ⌝ }
+    ensures notebook { λ _. ⌜ (isSome (first-failed (early-checks (K·Kind .model) (N·Network .meaning (now (network .entry))) (brought (now (enquiry .entry)) (now (tables .entry)) (now (list .entry)) (length (now (notebook .entry)))))) ≡ true → now (notebook .exit) ≡ now (notebook .entry)) ⌝ }
+{
+    let copy = NetworkCopy::of(network);
+    let sizes = Sizes {
+        sites: usize::from(copy.sites()),
+        list: list.len(),
+        tables: shortest(tables),
+    };
+    if let Some(refusal) = early_refusal(enquiry, sizes) {
+        return Err(refusal);
+    }
+    fill_tables(&copy, enquiry, tables);
+    find_routes(&copy, enquiry, &*tables, notebook, list)
 }

@@ -13,8 +13,8 @@ ghost use Rattle.routes.specs.Lines.{Asked, EndsInside, OnLine, RestsHold, fit
 ghost use Rattle.routes.specs.Partial.{at-most};
 ghost use Rattle.routes.specs.Routes.{complete?};
 use super::enquiry::Enquiry;
+use super::filling::LentTables;
 use super::line::Line;
-use super::line::Rests;
 use length::Kind;
 use network::Arc;
 use network::CopyNetwork;
@@ -42,7 +42,7 @@ fn within(total: u32, rest: Option<u32>, limit: u32) -> bool
 // Whether a line made one arc longer keeps the four limits, with the least that is to come.
 fn fits_limits<K: Kind>(
     enquiry: &Enquiry<K>,
-    rests: &Rests<'_, K::Length>,
+    rests: &LentTables<'_, K::Length>,
     arc: Arc,
     line: &Line<K::Length>,
 ) -> bool
@@ -53,10 +53,18 @@ fn fits_limits<K: Kind>(
     let jitter = line.jitter.saturating_add(u32::from(arc.jitter));
     let charge = line.charge.saturating_add(u32::from(arc.charge));
     let hops = u32::from(line.count) + 1;
-    within(delay, rest_at(rests.delay, arc.to), enquiry.limits.delay)
-        && within(jitter, rest_at(rests.jitter, arc.to), enquiry.limits.jitter)
-        && within(charge, rest_at(rests.charge, arc.to), enquiry.limits.charge)
-        && within(hops, rest_at(rests.hops, arc.to), enquiry.limits.hops)
+    within(delay, rest_at(&*rests.delay, arc.to), enquiry.limits.delay)
+        && within(
+            jitter,
+            rest_at(&*rests.jitter, arc.to),
+            enquiry.limits.jitter,
+        )
+        && within(
+            charge,
+            rest_at(&*rests.charge, arc.to),
+            enquiry.limits.charge,
+        )
+        && within(hops, rest_at(&*rests.hops, arc.to), enquiry.limits.hops)
 }
 
 // A line made one arc longer, with the least length that is to come.
@@ -131,7 +139,7 @@ fn following<K: Kind>(
 // The line of a partial route that is one arc longer, where the limits and the least that is to come allow it.
 fn stretch_within<K: Kind>(
     enquiry: &Enquiry<K>,
-    rests: &Rests<'_, K::Length>,
+    rests: &LentTables<'_, K::Length>,
     arc: Arc,
     number: u8,
     line: &Line<K::Length>,
@@ -139,7 +147,7 @@ fn stretch_within<K: Kind>(
     requires { ⌜ EndsInside (now rests) (arc .to) ⌝ ∗ ⌜ now line .count < 15 ⌝ }
     ensures { λ r. ⌜ r ≡ stretched-within (K·Kind .model (now (enquiry .entry) .kind)) (now (enquiry .entry)) (now (rests .entry)) arc number (now (line .entry)) ⌝ }
 {
-    let Some(rest) = rest_at(rests.length, arc.to) else {
+    let Some(rest) = rest_at(&*rests.length, arc.to) else {
         return None;
     };
     if !fits_limits(enquiry, rests, arc, line) {
@@ -152,7 +160,7 @@ fn stretch_within<K: Kind>(
 pub(super) fn extended<K: Kind>(
     network: &NetworkCopy,
     enquiry: &Enquiry<K>,
-    rests: &Rests<'_, K::Length>,
+    rests: &LentTables<'_, K::Length>,
     line: &Line<K::Length>,
     number: u8,
 ) -> Option<Line<K::Length>>
@@ -169,26 +177,30 @@ pub(super) fn extended<K: Kind>(
 }
 
 // Whether the least totals from a site keep the four limits.
-fn starts_within<K: Kind>(enquiry: &Enquiry<K>, rests: &Rests<'_, K::Length>, source: u8) -> bool
+fn starts_within<K: Kind>(
+    enquiry: &Enquiry<K>,
+    rests: &LentTables<'_, K::Length>,
+    source: u8,
+) -> bool
     requires { ⌜ EndsInside (now rests) source ⌝ }
     ensures { λ r. ⌜ r ≡ starts-within (now (enquiry .entry)) (now (rests .entry)) source ⌝ }
 {
-    within(0, rest_at(rests.delay, source), enquiry.limits.delay)
-        && within(0, rest_at(rests.jitter, source), enquiry.limits.jitter)
-        && within(0, rest_at(rests.charge, source), enquiry.limits.charge)
-        && within(0, rest_at(rests.hops, source), enquiry.limits.hops)
+    within(0, rest_at(&*rests.delay, source), enquiry.limits.delay)
+        && within(0, rest_at(&*rests.jitter, source), enquiry.limits.jitter)
+        && within(0, rest_at(&*rests.charge, source), enquiry.limits.charge)
+        && within(0, rest_at(&*rests.hops, source), enquiry.limits.hops)
 }
 
 // The line of the empty partial route, where that is written down.
 pub(super) fn start<K: Kind>(
     enquiry: &Enquiry<K>,
-    rests: &Rests<'_, K::Length>,
+    rests: &LentTables<'_, K::Length>,
 ) -> Option<Line<K::Length>>
     requires { ⌜ now enquiry .source < 64 ⌝ ∗ ⌜ EndsInside (now rests) (now enquiry .source) ⌝ }
     ensures { λ r. ⌜ r ≡ started (K·Kind .model (now (enquiry .entry) .kind)) (now (enquiry .entry)) (now (rests .entry)) ⌝ }
 {
     let source = enquiry.source as u8;
-    let Some(rest) = rest_at(rests.length, source) else {
+    let Some(rest) = rest_at(&*rests.length, source) else {
         return None;
     };
     if !starts_within(enquiry, rests, source) {

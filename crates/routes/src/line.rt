@@ -1,4 +1,4 @@
-// Lines of a notebook, and the least totals that the work looks up.
+// Lines of a notebook.
 
 // One line of a notebook: a partial route. `arcs` has the arc numbers in its first `count` places, and 0 in the others.
 #[derive(Clone, Copy)]
@@ -14,14 +14,4 @@ pub struct Line<L> {
     // the site where the arcs end
     pub(super) end: u8,
     pub(super) taken: bool,
-}
-
-// The least totals to the destination, by site, once the tables are filled.
-#[derive(Clone, Copy)]
-pub struct Rests<'a, L> {
-    pub(super) length: &'a [Option<L>],
-    pub(super) delay: &'a [Option<u32>],
-    pub(super) jitter: &'a [Option<u32>],
-    pub(super) charge: &'a [Option<u32>],
-    pub(super) hops: &'a [Option<u32>],
 }

@@ -14,8 +14,8 @@ use super::choosing::next_line;
 use super::enquiry::Enquiry;
 use super::extending::extended;
 use super::extending::start;
+use super::filling::LentTables;
 use super::line::Line;
-use super::line::Rests;
 use super::noting::mark_taken;
 use super::noting::write_line;
 use length::Kind;
@@ -59,7 +59,7 @@ fn note<L: Copy>(
 pub(super) fn take_lines<K: Kind>(
     network: &NetworkCopy,
     enquiry: &Enquiry<K>,
-    rests: &Rests<'_, K::Length>,
+    rests: &LentTables<'_, K::Length>,
     notebook: &mut [Line<K::Length>],
     lines: usize,
 ) -> Option<Work>

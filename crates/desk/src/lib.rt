@@ -1,4 +1,6 @@
 // The desk: one client's calls on a ledger, answered one after another, and the law over any succession of them.
+#![tactic(auto)]
+
 ghost use Rattle.desk.specs.Faithful.{TheTallyIsFaithful};
 
 pub mod requests;

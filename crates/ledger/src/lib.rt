@@ -1,4 +1,6 @@
 // The circuit ledger: which capacity is held or booked, and which arcs are closed.
+#![tactic(auto)]
+
 mod caller;
 pub mod calls;
 pub mod free;

@@ -1,4 +1,6 @@
 // Kinds of length, the length of a row of arcs, and least totals over all walks.
+#![tactic(auto)]
+
 pub mod kind;
 pub mod refusals;
 pub mod rows;

@@ -1,5 +1,7 @@
 // Tries the limits of networks, sheets, rows of arcs and least totals, and prints what the library answers; the answers that
 // the documents promise stand in the file `stdout`.
+#![tactic(auto)]
+
 mod arcs;
 mod rings;
 mod sheets;

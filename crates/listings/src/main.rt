@@ -1,6 +1,8 @@
 // Carries out many orders on many networks, as they stand on standard input, so that what is said can be compared with the
 // answers of another lister. A line 'network HEX' opens a new ledger over the sheet whose bytes follow; the lines after it
 // are orders.
+#![tactic(auto)]
+
 mod failure;
 mod hex;
 

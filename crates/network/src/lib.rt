@@ -1,5 +1,7 @@
 // Networks: what an arc is, what every network answers when it is asked, and two networks that are computed:
 // ring plans and headroom.
+#![tactic(auto)]
+
 pub mod arc;
 pub mod copy;
 pub mod copying;

@@ -1,4 +1,6 @@
 // Orders: a text of calls on a ledger, carried out one after another, and what is said of each.
+#![tactic(auto)]
+
 mod book;
 mod clerk;
 pub mod failure;

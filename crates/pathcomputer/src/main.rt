@@ -1,4 +1,6 @@
 // The program: takes a command from its arguments, carries it out over the library, and says what it did.
+#![tactic(auto)]
+
 mod commands;
 mod entries;
 mod failure;

@@ -1,4 +1,6 @@
 // Enquiries: the shortest feasible routes from a source to a destination, and their list.
+#![tactic(auto)]
+
 mod checking;
 mod choosing;
 pub mod enquiring;

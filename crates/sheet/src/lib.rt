@@ -1,4 +1,6 @@
 // Network sheets: a network as bits, read from a caller's bytes and written into a caller's buffer.
+#![tactic(auto)]
+
 pub mod questions;
 pub mod reader;
 pub mod reading;

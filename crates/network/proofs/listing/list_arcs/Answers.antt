@@ -13,7 +13,7 @@ loop-number-preserved g c =
     let room : i < length c.args.table.now = omega (arith, few, c.told-table, c.arcs-count.ensures) in
     let there : i < length net.arcs = omega (arith, c.arcs-count.ensures) in
     let found = slice_get-get_or net.arcs i no_arc there in
-    let one = c.enter-arc.ensures ∙ ap (λ o. entered o i c.loop-number.table) found in
+    let one = c.enter_arc.ensures ∙ ap (λ o. entered o i c.loop-number.table) found in
     one ∙ enter_at net.arcs c.args.table.now c.loop-number.table i i (get_or net.arcs i no_arc) no_arc c.loop-number.invariant refl there room refl
 
 pub enter-arc-requires : goal.enter-arc-requires

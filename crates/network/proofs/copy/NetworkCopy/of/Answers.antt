@@ -21,6 +21,6 @@ invariant-of-result g c =
 pub returns : goal.returns
 returns g c =
     let net = g.N.Network.meaning c.args.network.now in
-    let count = c.list-arcs-count.result in
-    let table = c.list-arcs-count.new.table in
-    same_net net c.sites.result (take count table) c.sites.ensures (listed net table _ count c.list-arcs-count.ensures.count c.list-arcs-count.ensures.table)
+    let count = c.list_arcs-count.result in
+    let table = c.list_arcs-count.new.table in
+    same_net net c.sites.result (take count table) c.sites.ensures (listed net table _ count c.list_arcs-count.ensures.count c.list_arcs-count.ensures.table)

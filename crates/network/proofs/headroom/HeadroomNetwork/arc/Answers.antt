@@ -12,5 +12,5 @@ returns-in-err-arc g c =
 pub returns : goal.returns
 returns g c =
     let below = g.N.Network.meaning c.args.self.now.network in
-    ap (λ x. Some (with_capacity x c.in-ok-arc.arc)) c.capacity-less.ensures
-    ∙ headroom_arc c.args.self.now.reserve below c.args.number (Some c.in-ok-arc.arc) c.in-ok-arc.ensures
+    ap (λ x. Some (with_capacity x c.in_ok-arc.arc)) c.capacity_less.ensures
+    ∙ headroom_arc c.args.self.now.reserve below c.args.number (Some c.in_ok-arc.arc) c.in_ok-arc.ensures

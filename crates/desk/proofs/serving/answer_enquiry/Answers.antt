@@ -12,7 +12,7 @@ returns g c =
     let model = g.K.Kind.model in
     let net = ledger_meaning g.N.Network.meaning c.args.ledger.now in
     let b = brought_in c.args.enquiry c.args.memory in
-    let did = c.enquire-in-found.ensures in
+    let did = c.enquire_in-found.ensures in
     let is = same_answer (enquiry_answer model net b) did.answer did.tables did.list in
     record {
       answer = ap enquired is;

@@ -13,7 +13,7 @@ pub loop-turn-preserved : goal.loop-turn-preserved
 loop-turn-preserved g c =
     let did = c.respond-reply.ensures in
     one_more g.K.Kind.model g.N.Network.meaning g.C.Client.asks g.C.Client.hears (network_below c.open-ledger.result) c.args.client.now c.loop-turn.client c.next.new.self c.told.new.self
-    c.loop-turn.-turn c.loop-turn.ledger c.respond-reply.new.ledger (record { request = c.in-Some.request; reply = c.respond-reply.result }) c.loop-turn.invariant
+    c.loop-turn._turn c.loop-turn.ledger c.respond-reply.new.ledger (record { request = c.in-Some.request; reply = c.respond-reply.result }) c.loop-turn.invariant
     (record { answer = did.answer; tally = did.tally; below = did.below; returned = did.returned }) c.in-Some.ensures c.told.ensures
 
 pub told-requires : goal.told-requires
@@ -27,15 +27,15 @@ told-requires g c =
       answered = c.respond-reply.ensures.answer;
     }
 
-pub returns-in-default : goal.returns-in-default
-returns-in-default g c =
+pub returns-in_default : goal.returns-in_default
+returns-in_default g c =
     let model = g.K.Kind.model in
     let meaning = g.N.Network.meaning in
     let asks = g.C.Client.asks in
     let hears = g.C.Client.hears in
     let below = network_below c.open-ledger.result in
     subst (λ n. Served model meaning asks hears n c.args.most c.args.client.now c.next.new.self c.loop-turn.ledger) c.open-ledger.ensures.network
-    (served model meaning asks hears below g.met.K.Kind.lawful (g.met.N.Network.formed below) c.args.client.now c.loop-turn.client c.next.new.self c.loop-turn.-turn c.args.most c.loop-turn.ledger c.loop-turn.invariant (inr c.in-default.ensures))
+    (served model meaning asks hears below g.met.K.Kind.lawful (g.met.N.Network.formed below) c.args.client.now c.loop-turn.client c.next.new.self c.loop-turn._turn c.args.most c.loop-turn.ledger c.loop-turn.invariant (inr c.in_default.ensures))
 
 pub returns : goal.returns
 returns g c =
@@ -46,4 +46,4 @@ returns g c =
     let below = network_below c.open-ledger.result in
     let all : length c.loop-turn.invariant.turns ≡ c.args.most = c.loop-turn.invariant.counted ∙ omega arith in
     subst (λ n. Served model meaning asks hears n c.args.most c.args.client.now c.loop-turn.client c.loop-turn.ledger) c.open-ledger.ensures.network
-    (served model meaning asks hears below g.met.K.Kind.lawful (g.met.N.Network.formed below) c.args.client.now c.loop-turn.client c.loop-turn.client c.loop-turn.-turn c.args.most c.loop-turn.ledger c.loop-turn.invariant (inl (all, refl)))
+    (served model meaning asks hears below g.met.K.Kind.lawful (g.met.N.Network.formed below) c.args.client.now c.loop-turn.client c.loop-turn.client c.loop-turn._turn c.args.most c.loop-turn.ledger c.loop-turn.invariant (inl (all, refl)))

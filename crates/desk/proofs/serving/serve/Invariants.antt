@@ -5,4 +5,4 @@ use Rattle.desk.proofs.serving.serve.Given as goal
 
 abbrev pub invariant-loop-turn : goal.invariant-loop-turn
 invariant-loop-turn g l =
-    SoFar g.K.Kind.model g.N.Network.meaning g.C.Client.asks g.C.Client.hears (network_below l.initial.ledger) l.initial.client l.-turn l.ledger l.client
+    SoFar g.K.Kind.model g.N.Network.meaning g.C.Client.asks g.C.Client.hears (network_below l.initial.ledger) l.initial.client l._turn l.ledger l.client

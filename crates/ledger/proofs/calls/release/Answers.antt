@@ -8,8 +8,8 @@ use Rattle.ledger.proofs.calls.release.Goals as goal
 pub loop-place-init : goal.loop-place-init
 loop-place-init c = changed_none ◌-◌ sub-zero c.args.circuit.now.arcs c.args.sold.now c.args.circuit.now.width
 
-pub overflow-sub-sold : goal.overflow-sub-sold
-overflow-sub-sold c =
+pub overflow_sub-sold : goal.overflow_sub-sold
+overflow_sub-sold c =
     let circuit = c.args.circuit.now in
     let start = c.args.sold.now in
     let k = c.loop-place.place in

@@ -6,8 +6,8 @@ use Rattle.ledger.proofs.hold.sell.Goals as goal
 pub loop-place-init : goal.loop-place-init
 loop-place-init c = changed_none ◌+◌ add-zero c.args.circuit.now.arcs c.args.sold.now c.args.circuit.now.width
 
-pub overflow-add-sold : goal.overflow-add-sold
-overflow-add-sold c =
+pub overflow_add-sold : goal.overflow_add-sold
+overflow_add-sold c =
     let circuit = c.args.circuit.now in
     let start = c.args.sold.now in
     let k = c.loop-place.place in

@@ -12,7 +12,7 @@ returns-then-from-width g c =
     let arcs = c.args.arcs.now in
     let width = c.args.width in
     let k = c.loop-number.number-index in
-    let capacity : c.arc-at.result.capacity ≡ (arc_at net (get_or arcs k 0)).capacity = ap (λ (a : Arc). a.capacity) c.arc-at.ensures in
+    let capacity : c.arc_at.result.capacity ≡ (arc_at net (get_or arcs k 0)).capacity = ap (λ (a : Arc). a.capacity) c.arc_at.ensures in
     sym (ap not (any_some (λ i. ltb (arc_at net i).capacity width) arcs 0 k c.loop-number-test.true (lt-ltb (arc_at net (get_or arcs k 0)).capacity width (omega (arith, capacity, c.from.ensures)))))
 
 pub returns : goal.returns

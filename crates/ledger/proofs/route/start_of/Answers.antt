@@ -9,5 +9,5 @@ pub returns : goal.returns
 returns g c =
     let network = c.args.network.now in
     let net = g.N.Network.meaning network in
-    let is : c.arc-at.result.from ≡ (arc_at net c.args.number).from = ap (λ (a : Arc). a.from) c.arc-at.ensures in
+    let is : c.arc_at.result.from ≡ (arc_at net c.args.number).from = ap (λ (a : Arc). a.from) c.arc_at.ensures in
     record { is = is; below = omega (arith, is, (site_below net (g.met.N.Network.formed network) c.args.number).0) }

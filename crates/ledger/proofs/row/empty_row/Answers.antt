@@ -5,12 +5,12 @@ use Rattle.ledger.proofs.Standing.{count_full, count_room}
 use Rattle.ledger.proofs.Tests.{all_from}
 use Rattle.ledger.proofs.row.empty_row.Goals as goal
 
-pub returns-then-is-in : goal.returns-then-is-in
-returns-then-is-in c =
+pub returns-then-is_in : goal.returns-then-is_in
+returns-then-is_in c =
     let rows = c.args.rows.now in
     let k = c.loop-place.place in
     let room : k < length rows = omega (arith, c.told-rows) in
-    let empty : in_use (get_or rows k no_row) ≡ false = ap not (sym c.is-in.ensures ∙ c.if-is-in.true) in
+    let empty : in_use (get_or rows k no_row) ≡ false = ap not (sym c.is_in.ensures ∙ c.if-is_in.true) in
     (c.loop-place-test.true, empty, omega (arith, count_room rows k room empty, c.told-rows))
 
 pub returns : goal.returns

@@ -28,7 +28,7 @@ loop-number-preserved g c =
     let found = nth_some net.arcs (get_or arcs i 0) c.in-Some.arc no_arc c.in-Some.ensures in
     let pushed = walk_push m (g.met.K.Kind.lawful kind) net (g.met.N.Network.formed network) (take i arcs) (get_or arcs i 0) c.loop-number.invariant.1 found.0 in
     let sofar = c.loop-number.invariant.2 in
-    let arclen = c.arc-length.ensures in
+    let arclen = c.arc_length.ensures in
     let joined = c.join-total.ensures in
     let where-it-is = found.1 in (
       omega arith,

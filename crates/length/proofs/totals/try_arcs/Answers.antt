@@ -6,10 +6,10 @@ use Rattle.std.proofs.lemmas.List.Sums.{fold_more}
 use Rattle.network.specs.Net.{no_arc}
 use Rattle.length.specs.Rounds.{EndsWithin, tried, all_tried}
 use Rattle.length.proofs.totals.try_arcs.Goals as goal
-use Rattle.length.proofs.totals.try_arcs.Goals.{then-try-arc, else-try-arc}
+use Rattle.length.proofs.totals.try_arcs.Goals.{then-try_arc, else-try_arc}
 
-pub try-arc-requires : goal.try-arc-requires
-try-arc-requires g c =
+pub try_arc-requires : goal.try_arc-requires
+try_arc-requires g c =
     rw c.loop-arc.auto.table (All-get_or (EndsWithin (length c.args.table.now)) c.args.arcs.now c.loop-arc.arc-index no_arc c.loop-arc-test.true c.requires)
 
 pub loop-arc-preserved : goal.loop-arc-preserved
@@ -20,11 +20,11 @@ loop-arc-preserved g c =
     let start = c.args.table.now in
     let i = c.loop-arc.arc-index in
     let more = fold_more (λ t arc. tried m width arc t) start arcs i no_arc c.loop-arc-test.true in
-    let one = c.try-arc.ensures.table in (
+    let one = c.try_arc.ensures.table in (
       one ∙ ap (tried m width (get_or arcs i no_arc)) c.loop-arc.invariant.0 ∙ sym more,
-      elim c.if-try-arc.branch [
-        | then-try-arc w ↦ λ e. absurd (clash (sym e ∙ w.changed-is))
-        | else-try-arc w ↦ λ e. c.try-arc.ensures.same w.if-try-arc.false ∙ c.loop-arc.invariant.1 (sym w.changed-is ∙ e)
+      elim c.if-try_arc.branch [
+        | then-try_arc w ↦ λ e. absurd (clash (sym e ∙ w.changed-is))
+        | else-try_arc w ↦ λ e. c.try_arc.ensures.same w.if-try_arc.false ∙ c.loop-arc.invariant.1 (sym w.changed-is ∙ e)
       ],
     )
 

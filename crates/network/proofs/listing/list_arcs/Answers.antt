@@ -16,8 +16,8 @@ loop-number-preserved g c =
     let one = c.enter_arc.ensures ∙ ap (λ o. entered o i c.loop-number.table) found in
     one ∙ enter_at net.arcs c.args.table.now c.loop-number.table i i (get_or net.arcs i no_arc) no_arc c.loop-number.invariant refl there room refl
 
-pub enter-arc-requires : goal.enter-arc-requires
-enter-arc-requires g c = omega (arith, (g.met.N.Network.formed c.args.network.now).few_arcs, c.arcs-count.ensures)
+pub enter_arc-requires : goal.enter_arc-requires
+enter_arc-requires g c = omega (arith, (g.met.N.Network.formed c.args.network.now).few_arcs, c.arcs-count.ensures)
 
 pub returns : goal.returns
 returns g c =

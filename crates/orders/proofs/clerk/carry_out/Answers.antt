@@ -3,6 +3,6 @@ use Rattle.length.specs.Standard.{standard}
 use Rattle.orders.proofs.Afterwards.{all_held}
 use Rattle.orders.proofs.clerk.carry_out.Goals as goal
 
-pub let-all-go-let-go-requires : goal.let-all-go-let-go-requires
-let-all-go-let-go-requires g c =
+pub let_all_go-let_go-requires : goal.let_all_go-let_go-requires
+let_all_go-let_go-requires g c =
     all_held standard g.N.Network.meaning c.args.network 4294967295 _ c.serve-ledger.new.client c.serve-ledger.result c.serve-ledger.ensures c.empty.ensures

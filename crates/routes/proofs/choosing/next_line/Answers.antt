@@ -3,8 +3,8 @@ use Rattle.std.proofs.Common.{◌≡◌, ℕ, subst, arith}
 use Rattle.routes.specs.Choice.{Chosen}
 use Rattle.routes.proofs.choosing.next_line.Goals as goal
 
-pub is-better-requires : goal.is-better-requires
-is-better-requires g c = (λ j line h at. c.requires.0 j line (omega arith) at, (omega (arith, c.requires.1), c.loop-place.invariant))
+pub is_better-requires : goal.is_better-requires
+is_better-requires g c = (λ j line h at. c.requires.0 j line (omega arith) at, (omega (arith, c.requires.1), c.loop-place.invariant))
 
 pub returns : goal.returns
 returns g c =

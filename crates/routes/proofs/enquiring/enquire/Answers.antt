@@ -28,13 +28,13 @@ returns-in-Some g c =
       notebook = λ _. refl;
     }
 
-pub fill-tables-requires : goal.fill-tables-requires
-fill-tables-requires g c =
+pub fill_tables-requires : goal.fill_tables-requires
+fill_tables-requires g c =
     let model = g.K.Kind.model in
     let net = copy_meaning c.of-copy.result in
     let b = brought c.args.enquiry.now c.args.tables.now c.args.list.now (length c.args.notebook.now) in
     let sizes : Sizes = record { sites = c.from.result; list = length c.args.list.now; tables = c.shortest.result } in
-    let none = sym (c.in-default.ensures ∙ same_checks model net b sizes (c.from.ensures ∙ c.sites.ensures) refl c.shortest.ensures) in
+    let none = sym (c.in_default.ensures ∙ same_checks model net b sizes (c.from.ensures ∙ c.sites.ensures) refl c.shortest.ensures) in
     let passed = early_passed model net b none in
     record {
       asked = passed.asked;
@@ -46,16 +46,16 @@ fill-tables-requires g c =
       hops = passed.by_hops;
     }
 
-pub find-routes-requires : goal.find-routes-requires
-find-routes-requires g c =
+pub find_routes-requires : goal.find_routes-requires
+find_routes-requires g c =
     let model = g.K.Kind.model in
     let net = copy_meaning c.of-copy.result in
     let e = c.args.enquiry.now in
     let b = brought e c.args.tables.now c.args.list.now (length c.args.notebook.now) in
     let sizes : Sizes = record { sites = c.from.result; list = length c.args.list.now; tables = c.shortest.result } in
-    let none = sym (c.in-default.ensures ∙ same_checks model net b sizes (c.from.ensures ∙ c.sites.ensures) refl c.shortest.ensures) in
+    let none = sym (c.in_default.ensures ∙ same_checks model net b sizes (c.from.ensures ∙ c.sites.ensures) refl c.shortest.ensures) in
     let passed = early_passed model net b none in
-    let filled = c.fill-tables.ensures in
+    let filled = c.fill_tables.ensures in
     record {
       asked = passed.asked;
       tables = record {
@@ -75,11 +75,11 @@ returns g c =
     let same = c.of-copy.ensures in
     let b = brought c.args.enquiry.now c.args.tables.now c.args.list.now (length c.args.notebook.now) in
     let sizes : Sizes = record { sites = c.from.result; list = length c.args.list.now; tables = c.shortest.result } in
-    let none = sym (c.in-default.ensures ∙ same_checks model copied b sizes (c.from.ensures ∙ c.sites.ensures) refl c.shortest.ensures) in
+    let none = sym (c.in_default.ensures ∙ same_checks model copied b sizes (c.from.ensures ∙ c.sites.ensures) refl c.shortest.ensures) in
     let is = answered_work model copied b none in
-    let filled = c.fill-tables.ensures in
+    let filled = c.fill_tables.ensures in
     record {
-      answer = c.find-routes.ensures.answer ∙ sym (ap (λ a. a.result) is) ∙ ap (λ n. (enquiry_answer model n b).result) same;
+      answer = c.find_routes.ensures.answer ∙ sym (ap (λ a. a.result) is) ∙ ap (λ n. (enquiry_answer model n b).result) same;
       tables = (λ k. record {
         by_kind = filled.length k;
         by_delay = filled.delay k;
@@ -88,6 +88,6 @@ returns g c =
         by_hops = filled.hops k;
       })
           ∙ sym (ap (λ a. a.tables) is) ∙ ap (λ n. (enquiry_answer model n b).tables) same;
-      list = c.find-routes.ensures.list ∙ sym (ap (λ a. a.list) is) ∙ ap (λ n. (enquiry_answer model n b).list) same;
+      list = c.find_routes.ensures.list ∙ sym (ap (λ a. a.list) is) ∙ ap (λ n. (enquiry_answer model n b).list) same;
       notebook = λ some. absurd (clash (sym (ap is_some (subst (λ n. first_failed (early_checks model n b) ≡ None) same none)) ∙ some));
     }

@@ -11,20 +11,20 @@ use Rattle.routes.specs.Routes.{list_after, route_list, row_of}
 use Rattle.routes.proofs.Listed.{listed_inside, listed_wanted, rows_listed}
 use Rattle.routes.proofs.enquiring.find_routes.Goals as goal
 
-pub returns-in-default : goal.returns-in-default
-returns-in-default g c =
+pub returns-in_default : goal.returns-in_default
+returns-in_default g c =
     let net = copy_meaning c.args.network.now in
     let e = c.args.enquiry.now in
     let model = g.K.Kind.model in
     let list = c.args.list.now in
-    let short = lt-ltb (lines_that_count (length c.args.notebook.now)) (line_count model net e) (omega (arith, c.in-default.ensures, c.min-lines.ensures)) in
+    let short = lt-ltb (lines_that_count (length c.args.notebook.now)) (line_count model net e) (omega (arith, c.in_default.ensures, c.min-lines.ensures)) in
     record {
       answer = sym (ap (λ b. cond b (Err (refusal 27)) (Ok (record { routes = length (route_list model net e); lines = line_count model net e }))) short);
       list = sym (ap (λ b. cond b list (list_after net (route_list model net e) list)) short);
     }
 
-pub list-rows-requires : goal.list-rows-requires
-list-rows-requires g c =
+pub list_rows-requires : goal.list_rows-requires
+list_rows-requires g c =
     let net = copy_meaning c.args.network.now in
     let e = c.args.enquiry.now in
     let model = g.K.Kind.model in
@@ -35,12 +35,12 @@ list-rows-requires g c =
       omega (arith, few, ended.routes, c.requires.asked.few_wanted),
       (
         omega (arith, few, ended.routes, c.requires.list),
-        listed_inside model net e law wf c.requires.asked c.in-Some.work c.take-lines.new.notebook ended,
+        listed_inside model net e law wf c.requires.asked c.in-Some.work c.take_lines.new.notebook ended,
       ),
     )
 
-pub overflow-cast-result : goal.overflow-cast-result
-overflow-cast-result g c =
+pub overflow_cast-result : goal.overflow_cast-result
+overflow_cast-result g c =
     let net = copy_meaning c.args.network.now in
     let e = c.args.enquiry.now in
     let model = g.K.Kind.model in
@@ -60,8 +60,8 @@ returns g c =
     let same : record { routes = c.in-Some.work.routes; lines = c.in-Some.work.lines } ≡ found = λ k. record { routes = ended.routes k; lines = ended.lines k } in
     record {
       answer = ap Ok same ∙ sym (ap (λ b. cond b (Err (refusal 27)) (Ok found)) enough);
-      list = c.list-rows.ensures
-          ∙ ap (λ rows. rows ++ drop c.in-Some.work.routes list) (rows_listed model net e c.in-Some.work c.take-lines.new.notebook ended)
+      list = c.list_rows.ensures
+          ∙ ap (λ rows. rows ++ drop c.in-Some.work.routes list) (rows_listed model net e c.in-Some.work c.take_lines.new.notebook ended)
           ∙ ap (λ n. map (row_of net) (route_list model net e) ++ drop n list) ended.routes
           ∙ sym (ap (λ b. cond b list (list_after net (route_list model net e) list)) enough);
     }

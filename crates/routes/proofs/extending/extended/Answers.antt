@@ -20,19 +20,19 @@ following-requires g c =
       (on_count g.K.Kind.model net e law wf c.requires.asked line c.requires.line c.requires.open, on_there g.K.Kind.model net e law wf c.requires.asked line c.requires.line),
     )
 
-pub returns-in-default : goal.returns-in-default
-returns-in-default g c =
+pub returns-in_default : goal.returns-in_default
+returns-in_default g c =
     let network = c.args.network.now in
     let net = copy_meaning network in
     let e = c.args.enquiry.now in
     let line = c.args.line.now in
     let model = g.K.Kind.model in
     let next = on_next model net e (g.met.K.Kind.lawful e.kind) (fits_formed net network.limits) c.requires.asked line c.requires.line c.requires.open c.args.rests.now c.requires.rests c.args.number in
-    ap (λ (o : Option Arc). elim o as (λ _. Option (Line g.row.K-Length.Denot)) [ None ↦ None | Some arc ↦ stretched_within (model e.kind) e c.args.rests.now arc c.args.number line ]) c.in-default.ensures
+    ap (λ (o : Option Arc). elim o as (λ _. Option (Line g.row.K-Length.Denot)) [ None ↦ None | Some arc ↦ stretched_within (model e.kind) e c.args.rests.now arc c.args.number line ]) c.in_default.ensures
     ∙ sym next
 
-pub stretch-within-requires : goal.stretch-within-requires
-stretch-within-requires g c =
+pub stretch_within-requires : goal.stretch_within-requires
+stretch_within-requires g c =
     let network = c.args.network.now in
     let net = copy_meaning network in
     let e = c.args.enquiry.now in
@@ -51,6 +51,6 @@ returns g c =
     let line = c.args.line.now in
     let model = g.K.Kind.model in
     let next = on_next model net e (g.met.K.Kind.lawful e.kind) (fits_formed net network.limits) c.requires.asked line c.requires.line c.requires.open c.args.rests.now c.requires.rests c.args.number in
-    c.stretch-within.ensures
+    c.stretch_within.ensures
     ∙ ap (λ (o : Option Arc). elim o as (λ _. Option (Line g.row.K-Length.Denot)) [ None ↦ None | Some arc ↦ stretched_within (model e.kind) e c.args.rests.now arc c.args.number line ]) c.in-Some.ensures
     ∙ sym next

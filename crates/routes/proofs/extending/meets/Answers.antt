@@ -5,7 +5,7 @@ use Rattle.network.specs.Net.{arc_at, no_arc}
 use Rattle.network.specs.ListsLemmas.{nth_some, nth_none}
 use Rattle.routes.proofs.Meets.{met_at, not_met_more, there_inside}
 use Rattle.routes.proofs.extending.meets.Goals as goal
-use Rattle.routes.proofs.extending.meets.Goals.{in-Some+else-arc-site, in-default}
+use Rattle.routes.proofs.extending.meets.Goals.{in-Some+else-arc-site, in_default}
 
 pub returns-then-arc-site : goal.returns-then-arc-site
 returns-then-arc-site g c =
@@ -26,8 +26,8 @@ loop-place-preserved g c =
           let found = rw c.from-in-loop-place.ensures at (nth_some net.arcs c.from-in-loop-place.result w.in-Some.arc no_arc w.in-Some.ensures) in
           not_met_more net c.args.source line.arcs line.count k c.args.site (omega (arith, c.from-place-end.ensures)) (omega (arith, c.requires.0, c.requires.1.0))
           (λ e. w.if-arc-site.false (sym (ap (λ a. a.to) found.1) ∙ e)) c.loop-place.invariant
-      | in-default w ↦
-          let past = rw c.from-in-loop-place.ensures at (nth_none net.arcs c.from-in-loop-place.result w.in-default.ensures) in
+      | in_default w ↦
+          let past = rw c.from-in-loop-place.ensures at (nth_none net.arcs c.from-in-loop-place.result w.in_default.ensures) in
           let there = there_inside net c.args.source line.arcs line.count k c.args.site (omega (arith, c.from-place-end.ensures)) (omega (arith, c.requires.0, c.requires.1.0)) c.requires.1.1 in
           absurd (omega (arith, past, there))
     ]

@@ -6,8 +6,8 @@ use Rattle.routes.specs.Rows.{no_row, row_at, row_on, rows_at}
 use Rattle.routes.proofs.Listed.{inside_of, row_there}
 use Rattle.routes.proofs.listing.list_rows.Goals as goal
 
-pub line-at-requires : goal.line-at-requires
-line-at-requires g c =
+pub line_at-requires : goal.line_at-requires
+line_at-requires g c =
     let one = c.requires.1.1 c.loop-place.place c.loop-place-test.true in
     inside_of c.args.notebook.now (get_or c.args.work.now.finished c.loop-place.place 0) one.0 one.1
 
@@ -18,12 +18,12 @@ loop-place-preserved g c =
     let i = c.loop-place.place in
     let rows = rows_at notebook work.finished work.routes in
     let long = length-map-range_with_len (λ j. row_at notebook (get_or work.finished j 0)) 0 work.routes in
-    let is : get_or rows i no_row ≡ c.row-of.result =
+    let is : get_or rows i no_row ≡ c.row_of.result =
     get_or-map-range_with_len (λ j. row_at notebook (get_or work.finished j 0)) 0 work.routes i i no_row c.loop-place-test.true (omega arith)
-    ∙ row_there notebook (get_or work.finished i 0) c.line-at.result c.line-at.ensures ∙ sym c.row-of.ensures in
+    ∙ row_there notebook (get_or work.finished i 0) c.line_at.result c.line_at.ensures ∙ sym c.row_of.ensures in
     let inside : i < length rows = omega arith in
     let room : i < length c.args.list.now = omega (arith, c.requires.1.0) in
-    enter_at rows c.args.list.now c.loop-place.list i i c.row-of.result no_row c.loop-place.invariant refl inside room is
+    enter_at rows c.args.list.now c.loop-place.list i i c.row_of.result no_row c.loop-place.invariant refl inside room is
 
 pub returns : goal.returns
 returns g c =

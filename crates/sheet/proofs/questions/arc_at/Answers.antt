@@ -17,6 +17,6 @@ returns c =
     let count = sheet.arcs_counted ∙ count_in bytes in
     let size = facts.size in
     let place : 8 * (2 + 8 * i) ≡ 16 + 64 * i = omega arith in
-    let word : c.word-at.result ≡ field bytes (16 + 64 * i) 64 = c.word-at.ensures ∙ (ap (λ p. field sheet.bytes p 64) place ∙ sym (field_of_front sheet.bytes (sheet_size sheet.arcs) (16 + 64 * i) 64 (omega arith))) in
-    let arc : c.decode-arc.result ≡ arc_in bytes i = c.decode-arc.ensures ∙ (ap arc_in_word word ∙ sym (arc_in_is bytes i (omega arith))) in
+    let word : c.word_at.result ≡ field bytes (16 + 64 * i) 64 = c.word_at.ensures ∙ (ap (λ p. field sheet.bytes p 64) place ∙ sym (field_of_front sheet.bytes (sheet_size sheet.arcs) (16 + 64 * i) 64 (omega arith))) in
+    let arc : c.decode_arc.result ≡ arc_in bytes i = c.decode_arc.ensures ∙ (ap arc_in_word word ∙ sym (arc_in_is bytes i (omega arith))) in
     ap (λ a. Some a) arc ∙ sym (arc_found bytes i (omega arith))

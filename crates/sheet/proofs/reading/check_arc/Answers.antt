@@ -26,7 +26,7 @@ returns c =
     let end = passed_over bytes c.field-2.new.self.bytes.now (p + 12) c.field-2.new.self.position 52 c.skip-passed.new.self.position same-2 (omega arith) rest c.skip-passed.ensures.position in
     record {
       told =
-          c.check-ends.ensures
+          c.check_ends.ensures
           ∙ (ap (λ f. first_failed (end_checks n f c.unwrap-to.result)) (from ∙ ap (λ q. field_at bytes q 6) z)
           ∙ ap (λ t. first_failed (end_checks n (field_at bytes p 6) t)) to);
       position = omega arith;

@@ -9,15 +9,15 @@ use Rattle.sheet.specs.Passes.{joined_fails, joined_counting_more, first_failed_
 use Rattle.sheet.specs.Sound.{arc_checks_are}
 use Rattle.sheet.proofs.reading.check_arcs.Goals as goal
 
-pub returns-in-err-check-arc : goal.returns-in-err-check-arc
-returns-in-err-check-arc c =
-    let p = err_from_is_err_and c.from-residual.result c.from-residual.ensures.1 in
+pub returns-in_err-check_arc : goal.returns-in_err-check_arc
+returns-in_err-check_arc c =
+    let p = err_from_is_err_and c.from_residual.result c.from_residual.ensures.1 in
     let bytes = c.args.reader.now.bytes.now in
-    let i = c.loop-i.-i in
+    let i = c.loop-i._i in
     let inv = c.loop-i.invariant in
     let z : 0 + i ≡ i = omega arith in
-    let ens = c.in-err-check-arc.ensures in
-    let fault = c.in-err-check-arc.field-0.0 in
+    let ens = c.in_err-check_arc.ensures in
+    let fault = c.in_err-check_arc.field-0.0 in
     let here = arc_checks_are bytes c.loop-i.reader.bytes.now c.loop-i.reader.position i c.args.head.sites (ap (λ x. x.now) inv.2) inv.1 c.requires.1.1.1 in
     ap told p.1
     ∙ (ap (λ e. Some (read_told e)) p.2
@@ -26,10 +26,10 @@ returns-in-err-check-arc c =
 pub loop-i-preserved : goal.loop-i-preserved
 loop-i-preserved c =
     let bytes = c.args.reader.now.bytes.now in
-    let i = c.loop-i.-i in
+    let i = c.loop-i._i in
     let inv = c.loop-i.invariant in
     let z : 0 + i ≡ i = omega arith in
-    let ens = c.in-ok-check-arc.ensures in
+    let ens = c.in_ok-check_arc.ensures in
     let same = ap (λ x. x.now) inv.2 in
     let here = arc_checks_are bytes c.loop-i.reader.bytes.now c.loop-i.reader.position i c.args.head.sites same inv.1 c.requires.1.1.1 in (
       ap first_failed (joined_counting_more (arc_checks bytes) 0 i)

@@ -7,6 +7,6 @@ use Rattle.sheet.proofs.reading.check_arcs.Given as goal
 
 abbrev pub invariant-loop-i : goal.invariant-loop-i
 invariant-loop-i l =
-    (first_failed (flat_map (arc_checks l.initial.reader.bytes.now) (range_with_len 0 l.-i)) ≡ None)
-    × (l.reader.position ≡ 16 + 64 * l.-i)
+    (first_failed (flat_map (arc_checks l.initial.reader.bytes.now) (range_with_len 0 l._i)) ≡ None)
+    × (l.reader.position ≡ 16 + 64 * l._i)
     × (l.reader.bytes ≡ l.initial.reader.bytes)

@@ -9,13 +9,16 @@ pub copied-requires : goal.copied-requires
 copied-requires c =
     let facts = sound c.args.bytes.now c.requires.0 in let size = facts.size in let few = facts.few_arcs in omega arith
 
-pub invariant-of-result : goal.invariant-of-result
-invariant-of-result c =
+pub invariant_of-result : goal.invariant_of-result
+invariant_of-result c =
     let e = kept_whole c.args.bytes.now c.copied.result c.args.head.arcs c.requires.0 c.requires.1.1 c.copied.ensures in
-    let few = (sound c.args.bytes.now c.requires.0).few_arcs in (
-      omega arith,
-      (ap (λ xs. is_ok (read_answer xs)) e ∙ c.requires.0, (c.requires.1.0 ∙ ap sites_in (sym e), (c.requires.1.1 ∙ sym (ap (λ xs. arc_count (net_in xs)) e ∙ count_in c.args.bytes.now), tt))),
-    )
+    let few = (sound c.args.bytes.now c.requires.0).few_arcs in
+    record {
+      few_arcs = omega arith;
+      sound = ap (λ xs. is_ok (read_answer xs)) e ∙ c.requires.0;
+      sites_read = c.requires.1.0 ∙ ap sites_in (sym e);
+      arcs_counted = c.requires.1.1 ∙ sym (ap (λ xs. arc_count (net_in xs)) e ∙ count_in c.args.bytes.now);
+    }
 
 pub returns : goal.returns
 returns c = kept_whole c.args.bytes.now c.copied.result c.args.head.arcs c.requires.0 c.requires.1.1 c.copied.ensures

@@ -24,8 +24,8 @@ loop-number-preserved g c =
     let h : i < length arcs = omega arith in
     let there = c.arc.ensures ∙ (ap (slice_get arcs) c.from.ensures ∙ slice_get-get_or arcs i no_arc h) in
     let is : c.unwrap-arc.result ≡ get_or arcs i no_arc = cc in
-    c.put-word.ensures
-    ∙ buffer_more arcs i c.from-in-loop-number.result c.encode-arc.result c.args.buffer.now c.loop-number.buffer c.from-in-loop-number.ensures (c.encode-arc.ensures ∙ ap arc_word is) h c.requires c.loop-number.invariant
+    c.put_word.ensures
+    ∙ buffer_more arcs i c.from-in-loop-number.result c.encode_arc.result c.args.buffer.now c.loop-number.buffer c.from-in-loop-number.ensures (c.encode_arc.ensures ∙ ap arc_word is) h c.requires c.loop-number.invariant
 
 pub returns : goal.returns
 returns g c =

@@ -10,6 +10,6 @@ returns c =
     let old = c.args.buffer.now in
     let at = c.args.at in
     let n : at + (at + 8 - at) ≡ at + 8 = omega arith in
-    let here : c.copy-from-slice.new.self ≡ word_bytes c.args.word = c.copy-from-slice.ensures.after ∙ (c.to-be-bytes.ensures ∙ sym (word_bytes_are c.args.word)) in
+    let here : c.copy_from_slice.new.self ≡ word_bytes c.args.word = c.copy_from_slice.ensures.after ∙ (c.to_be_bytes.ensures ∙ sym (word_bytes_are c.args.word)) in
     let after = drop-drop (at + 8 - at) at old ∙ ap (λ k. drop k old) n in
     ap (λ xs. take at old ++ (xs ++ drop (at + 8 - at) (drop at old))) here ∙ ap (λ xs. take at old ++ (word_bytes c.args.word ++ xs)) after

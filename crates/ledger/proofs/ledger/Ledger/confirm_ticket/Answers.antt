@@ -10,13 +10,13 @@ use Rattle.ledger.proofs.Standing.{any_standing}
 use Rattle.ledger.proofs.Turns.{after_allowed, booked_facts, booked_tally, found_any}
 use Rattle.ledger.proofs.ledger.Ledger.confirm_ticket.Goals as goal
 
-pub returns-in-default : goal.returns-in-default
-returns-in-default g c =
+pub returns-in_default : goal.returns-in_default
+returns-in_default g c =
     let l = c.args.self.now in
-    record { answer = sym (any_standing Held refl c.args.ticket l.rows ∙ c.in-default.ensures); tally = refl; network = refl }
+    record { answer = sym (any_standing Held refl c.args.ticket l.rows ∙ c.in_default.ensures); tally = refl; network = refl }
 
-pub invariant-of-self : goal.invariant-of-self
-invariant-of-self g c =
+pub invariant_of-self : goal.invariant_of-self
+invariant_of-self g c =
     let l = c.args.self.now in
     let k = c.in-Some.place in
     let room : k < length l.rows = search rules in

@@ -12,16 +12,16 @@ use Rattle.ledger.proofs.Holds.{after_hold, arcs_below, failed_some, held_facts,
 use Rattle.ledger.proofs.Standing.{circuit_from, length_entries, sum_entries}
 use Rattle.ledger.proofs.ledger.Ledger.hold.Goals as goal
 
-pub returns-in-err-check-route : goal.returns-in-err-check-route
-returns-in-err-check-route g c =
+pub returns-in_err-check_route : goal.returns-in_err-check_route
+returns-in_err-check_route g c =
     let l = c.args.self.now in
     let net = g.N.Network.meaning l.network in
     let t = ledger_tally l in
     let width = c.args.width in
     let arcs = c.args.arcs.now in
-    let told = hold_told c.in-err-check-route.field-0.0 in
-    let refused = hold_failed net t width arcs told (failed_some (route_refusal net t width arcs) told c.in-err-check-route.ensures) in
-    let p = err_from_is_err_and c.from-residual.result c.from-residual.ensures.1 in
+    let told = hold_told c.in_err-check_route.field-0.0 in
+    let refused = hold_failed net t width arcs told (failed_some (route_refusal net t width arcs) told c.in_err-check_route.ensures) in
+    let p = err_from_is_err_and c.from_residual.result c.from_residual.ensures.1 in
     record {
       answer =
           ap (outcome {A = Slip g.row.N.Denot} {B = ℕ} (λ slip. slip.ticket) hold_told) p.1 ∙ (ap (λ r. Err (hold_told r)) p.2 ∙ sym (ap (λ o. answered o (next_ticket t)) refused));
@@ -29,15 +29,15 @@ returns-in-err-check-route g c =
       network = refl;
     }
 
-pub returns-in-default : goal.returns-in-default
-returns-in-default g c =
+pub returns-in_default : goal.returns-in_default
+returns-in_default g c =
     let l = c.args.self.now in
     let net = g.N.Network.meaning l.network in
     let t = ledger_tally l in
     let width = c.args.width in
     let arcs = c.args.arcs.now in
-    let passed = passed_none (route_refusal net t width arcs) c.in-ok-check-route.ensures in
-    let full = length_entries l.rows ∙ c.in-default.ensures in
+    let passed = passed_none (route_refusal net t width arcs) c.in_ok-check_route.ensures in
+    let full = length_entries l.rows ∙ c.in_default.ensures in
     let refused = hold_full net t width arcs passed (omega (arith, full)) in
     record {
       answer = sym (ap (λ o. answered o (next_ticket t)) refused);
@@ -52,7 +52,7 @@ returns-then-self g c =
     let t = ledger_tally l in
     let width = c.args.width in
     let arcs = c.args.arcs.now in
-    let passed = passed_none (route_refusal net t width arcs) c.in-ok-check-route.ensures in
+    let passed = passed_none (route_refusal net t width arcs) c.in_ok-check_route.ensures in
     let room = c.in-Some.ensures.2 in
     let refused = hold_no_ticket net t width arcs passed (omega (arith, length_entries l.rows, room)) (omega (arith, c.if-self.true)) in
     record {
@@ -61,21 +61,21 @@ returns-then-self g c =
       network = refl;
     }
 
-pub overflow-cast-width : goal.overflow-cast-width
-overflow-cast-width g c =
+pub overflow_cast-width : goal.overflow_cast-width
+overflow_cast-width g c =
     let l = c.args.self.now in
     let net = g.N.Network.meaning l.network in
     let t = ledger_tally l in
-    let passed = route_passed net t c.args.width c.args.arcs.now c.in-ok-check-route.ensures in
+    let passed = route_passed net t c.args.width c.args.arcs.now c.in_ok-check_route.ensures in
     let few = width_fits net (g.met.N.Network.formed l.network) t c.args.width c.args.arcs.now passed in
     search rules
 
-pub circuit-of-circuit-requires : goal.circuit-of-circuit-requires
-circuit-of-circuit-requires g c =
+pub circuit_of-circuit-requires : goal.circuit_of-circuit-requires
+circuit_of-circuit-requires g c =
     let l = c.args.self.now in
     let net = g.N.Network.meaning l.network in
     let t = ledger_tally l in
-    let passed = route_passed net t c.args.width c.args.arcs.now c.in-ok-check-route.ensures in
+    let passed = route_passed net t c.args.width c.args.arcs.now c.in_ok-check_route.ensures in
     record { few = passed.few_arcs; below = arcs_below net (g.met.N.Network.formed l.network) t c.args.width c.args.arcs.now passed }
 
 pub sell-requires : goal.sell-requires
@@ -83,9 +83,9 @@ sell-requires g c =
     let l = c.args.self.now in
     let net = g.N.Network.meaning l.network in
     let t = ledger_tally l in
-    let circuit = c.circuit-of-circuit.result in
-    let made = c.circuit-of-circuit.ensures in
-    let passed = route_passed net t c.args.width c.args.arcs.now c.in-ok-check-route.ensures in
+    let circuit = c.circuit_of-circuit.result in
+    let made = c.circuit_of-circuit.ensures in
+    let passed = route_passed net t c.args.width c.args.arcs.now c.in_ok-check_route.ensures in
     record {
       few = omega (arith, made.count, passed.few_arcs);
       apart = ap distinct made.arcs ∙ passed.arcs_differ;
@@ -96,15 +96,15 @@ sell-requires g c =
           omega (arith, made.width, taken, room_for net (g.met.N.Network.formed l.network) t c.args.width c.args.arcs.now passed arc at);
     }
 
-pub invariant-of-self : goal.invariant-of-self
-invariant-of-self g c =
+pub invariant_of-self : goal.invariant_of-self
+invariant_of-self g c =
     let l = c.args.self.now in
     let net = g.N.Network.meaning l.network in
     let t = ledger_tally l in
     let k = c.in-Some.place in
-    let circuit = c.circuit-of-circuit.result in
-    let made = c.circuit-of-circuit.ensures in
-    let passed = route_passed net t c.args.width c.args.arcs.now c.in-ok-check-route.ensures in
+    let circuit = c.circuit_of-circuit.result in
+    let made = c.circuit_of-circuit.ensures in
+    let passed = route_passed net t c.args.width c.args.arcs.now c.in_ok-check_route.ensures in
     let room : k < length l.rows = search rules in
     let empty = c.in-Some.ensures.1 in
     let turned = after_hold l k room empty circuit c.apply.new.row c.apply.ensures.row in
@@ -125,9 +125,9 @@ returns g c =
     let width = c.args.width in
     let arcs = c.args.arcs.now in
     let k = c.in-Some.place in
-    let circuit = c.circuit-of-circuit.result in
-    let made = c.circuit-of-circuit.ensures in
-    let passed = passed_none (route_refusal net t width arcs) c.in-ok-check-route.ensures in
+    let circuit = c.circuit_of-circuit.result in
+    let made = c.circuit_of-circuit.ensures in
+    let passed = passed_none (route_refusal net t width arcs) c.in_ok-check_route.ensures in
     let room : k < length l.rows = search rules in
     let few : l.given < 4294967295 = search rules in
     let empty = c.in-Some.ensures.1 in

@@ -3,11 +3,11 @@ use Rattle.std.proofs.Common.{refl}
 use Rattle.ledger.proofs.Blank.{fits_blank, one_row_blank, opened_blank, sold_blank}
 use Rattle.ledger.proofs.ledger.Ledger.open.Goals as goal
 
-pub invariant-of-result : goal.invariant-of-result
-invariant-of-result g c =
-    let r = c.blank-row.result in
-    let e = c.blank-row.ensures in
+pub invariant_of-result : goal.invariant_of-result
+invariant_of-result g c =
+    let r = c.blank_row.result in
+    let e = c.blank_row.ensures in
     (one_row_blank 64 r e, (fits_blank 64 r e, (sold_blank 64 r e 256, tt)))
 
 pub returns : goal.returns
-returns g c = record { tally = opened_blank 64 c.blank-row.result c.blank-row.ensures 256; network = refl }
+returns g c = record { tally = opened_blank 64 c.blank_row.result c.blank_row.ensures 256; network = refl }

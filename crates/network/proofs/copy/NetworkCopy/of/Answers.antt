@@ -6,17 +6,19 @@ use Rattle.network.proofs.Copied.{listed, same_net}
 use Rattle.network.specs.Fits.{formed_fits}
 use Rattle.network.proofs.copy.NetworkCopy.of.Goals as goal
 
-pub invariant-of-result : goal.invariant-of-result
-invariant-of-result g c =
+pub invariant_of-result : goal.invariant_of-result
+invariant_of-result g c =
     let net = g.N.Network.meaning c.args.network.now in
     let wf = g.met.N.Network.formed c.args.network.now in
-    let count = c.list-arcs-count.result in
-    let table = c.list-arcs-count.new.table in
-    let arcs = listed net table _ count c.list-arcs-count.ensures.count c.list-arcs-count.ensures.table in
-    let same = same_net net c.sites.result (take count table) c.sites.ensures arcs in (
-      omega (arith, wf.few_arcs, c.list-arcs-count.ensures.count),
-      (ap length arcs ∙ sym c.list-arcs-count.ensures.count, (subst (λ (n : Net). net_fits n ≡ true) (sym same) (formed_fits net wf), tt)),
-    )
+    let count = c.list_arcs-count.result in
+    let table = c.list_arcs-count.new.table in
+    let arcs = listed net table _ count c.list_arcs-count.ensures.count c.list_arcs-count.ensures.table in
+    let same = same_net net c.sites.result (take count table) c.sites.ensures arcs in
+    record {
+      few_arcs = omega (arith, wf.few_arcs, c.list_arcs-count.ensures.count);
+      counted = ap length arcs ∙ sym c.list_arcs-count.ensures.count;
+      limits = subst (λ (n : Net). net_fits n ≡ true) (sym same) (formed_fits net wf);
+    }
 
 pub returns : goal.returns
 returns g c =

@@ -4,10 +4,10 @@ use Rattle.network.specs.Net.{with_capacity}
 use Rattle.network.specs.Reserves.{headroom_arc}
 use Rattle.network.proofs.headroom.HeadroomNetwork.arc.Goals as goal
 
-pub returns-in-err-arc : goal.returns-in-err-arc
-returns-in-err-arc g c =
+pub returns-in_err-arc : goal.returns-in_err-arc
+returns-in_err-arc g c =
     let below = g.N.Network.meaning c.args.self.now.network in
-    c.from-residual.ensures ∙ headroom_arc c.args.self.now.reserve below c.args.number None c.in-err-arc.ensures
+    c.from_residual.ensures ∙ headroom_arc c.args.self.now.reserve below c.args.number None c.in_err-arc.ensures
 
 pub returns : goal.returns
 returns g c =

@@ -6,4 +6,4 @@ use Rattle.orders.proofs.pocket.Pocket.keep.Goals as goal
 
 pub returns : goal.returns
 returns g c =
-    ap (map ticket_on) c.push-reserved.ensures.items ∙ map-append ticket_on (vec_items c.args.self.now.slips) (c.args.slip ∷ [])
+    ap (map ticket_on) c.push_reserved.ensures.items ∙ map-append ticket_on (vec_items c.args.self.now.slips) (c.args.slip ∷ [])

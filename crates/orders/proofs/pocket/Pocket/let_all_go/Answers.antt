@@ -20,7 +20,7 @@ loop-slip-preserved g c =
     let out = taken_last ticket_on (vec_items c.loop-slip.self.slips) (vec_items c.pop.new.self) slip c.in-Some.ensures.items in
     let none = not_refused t u (taken_held t u hand _ c.loop-slip.invariant out) in
     let left = map ticket_on (vec_items c.pop.new.self) in
-    subst (λ t. AllHeld t left) (sym (c.let-go.ensures.tally ∙ ap (λ o. unless_refused o (strike_next t u) t) none))
+    subst (λ t. AllHeld t left) (sym (c.let_go.ensures.tally ∙ ap (λ o. unless_refused o (strike_next t u) t) none))
     (one_less t (strike_next t u) u hand left (held_struck u t.entries) c.loop-slip.invariant out)
 
 pub unreachable-requires : goal.unreachable-requires

@@ -10,8 +10,8 @@ pub returns : goal.returns
 returns g c =
     let slips = c.args.self.now.slips in
     let items = vec_items slips in
-    let place = c.in-ok-place.place in
-    let found = c.in-ok-place.ensures in
+    let place = c.in_ok-place.place in
+    let found = c.in_ok-place.ensures in
     let removed = c.remove.ensures in
     let slip = c.remove.result in
     let there : place < length items = omega (arith, found.0, slips.ok.0) in (

@@ -5,6 +5,6 @@ use Rattle.sheet.proofs.reader.BitReader.number.Given as goal
 
 abbrev pub invariant-loop-i : goal.invariant-loop-i
 invariant-loop-i l =
-    (l.value ≡ field l.initial.self.bytes.now l.initial.self.position l.-i)
-    × (l.self.position ≡ l.initial.self.position + l.-i)
+    (l.value ≡ field l.initial.self.bytes.now l.initial.self.position l._i)
+    × (l.self.position ≡ l.initial.self.position + l._i)
     × (l.self.bytes ≡ l.initial.self.bytes)

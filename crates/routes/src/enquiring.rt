@@ -52,7 +52,7 @@ fn find_routes<K: Kind>(
 
 // The shortest feasible routes of a network: the checks, the five tables, the work and the list. Refused with 20 to 26, and
 // then nothing is changed, or with 27, and then the tables are filled.
-pub(super) fn enquire<N: Network, K: Kind>(
+pub fn enquire<N: Network, K: Kind>(
     network: &N,
     enquiry: &Enquiry<K>,
     tables: &mut LentTables<'_, K::Length>,

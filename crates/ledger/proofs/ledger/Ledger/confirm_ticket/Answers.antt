@@ -22,7 +22,8 @@ invariant_of-self g c =
     let room : k < length l.rows = search rules in
     let found = c.in-Some.ensures.1 in
     let turned = c.apply.ensures.row ∙ after_allowed (get_or l.rows k no_row) Confirm (and_parts _ _ found).0 in
-    booked_facts l c.args.ticket k room Held refl found c.apply.new.row turned
+    let facts = booked_facts l c.args.ticket k room Held refl found c.apply.new.row turned in
+    record { one_row_each = facts.0; rows_fit = facts.1.0; sold_is = facts.1.1.0 }
 
 pub returns : goal.returns
 returns g c =

@@ -115,7 +115,8 @@ invariant_of-self g c =
       few_arcs = omega (arith, made.count, passed.few_arcs);
       arcs_apart = ap distinct made.arcs ∙ passed.arcs_differ;
     }) in
-    held_facts l k room empty circuit good c.apply.new.row turned c.sell.new.sold c.sell.ensures
+    let facts = held_facts l k room empty circuit good c.apply.new.row turned c.sell.new.sold c.sell.ensures in
+    record { one_row_each = facts.0; rows_fit = facts.1.0; sold_is = facts.1.1.0 }
 
 pub returns : goal.returns
 returns g c =

@@ -7,7 +7,7 @@ pub invariant_of-result : goal.invariant_of-result
 invariant_of-result g c =
     let r = c.blank_row.result in
     let e = c.blank_row.ensures in
-    (one_row_blank 64 r e, (fits_blank 64 r e, (sold_blank 64 r e 256, tt)))
+    record { one_row_each = one_row_blank 64 r e; rows_fit = fits_blank 64 r e; sold_is = sold_blank 64 r e 256 }
 
 pub returns : goal.returns
 returns g c = record { tally = opened_blank 64 c.blank_row.result c.blank_row.ensures 256; network = refl }

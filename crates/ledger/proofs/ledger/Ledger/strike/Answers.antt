@@ -39,7 +39,8 @@ invariant_of-self g c =
     let room : k < length l.rows = search rules in
     let found = ap (λ (s : RowState). row_is s c.args.ticket (get_or l.rows k no_row)) (sym c.asked_state.ensures) ∙ c.in-Some.ensures.1 in
     let turned = c.apply-emptied.ensures.row ∙ after_emptied (get_or l.rows k no_row) call c.requires (and_parts _ _ found).0 in
-    emptied_facts l c.args.ticket k room (asked_state call) (asked_in_use call c.requires) found c.apply-emptied.new.row turned c.release.new.sold c.release.ensures
+    let facts = emptied_facts l c.args.ticket k room (asked_state call) (asked_in_use call c.requires) found c.apply-emptied.new.row turned c.release.new.sold c.release.ensures in
+    record { one_row_each = facts.0; rows_fit = facts.1.0; sold_is = facts.1.1.0 }
 
 pub returns : goal.returns
 returns g c =

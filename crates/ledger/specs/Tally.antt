@@ -2,7 +2,7 @@
 -- nothing that a ledger holds.
 use Rattle.std.specs.Prelude.{ℕ, ◌+◌, ◌-◌, Bool, true, false, cond, not, ◌&&◌, ◌||◌, List, [], ◌∷◌, ◌++◌, map, length, Some, None, sum_by, filter, Option, ◌==◌, nat_le, nat_lt}
 use Rattle.std.specs.List.{range_with_len}
-use Rattle.network.specs.Lists.{any_of, all_of, among, distinct}
+use Rattle.network.specs.Lists.{any_of, among, distinct}
 use Rattle.network.specs.Checks.{Told, refusal, first_failed}
 use Rattle.network.specs.Net.{Net, arc_count, arc_at, with_capacity}
 use Rattle.length.specs.Walks.{arcs_outside, no_such_arc, sites_along}

@@ -1,12 +1,12 @@
 -- Rounds over all arcs fill a table with the least totals.
-use Rattle.std.proofs.Common.{◌≡◌, ℕ, zero, suc, ◌+◌, ◌-◌, ◌<◌, ◌≤◌, Bool, true, false, cond, ◌&&◌, T, eqb, ltb, leb, ◌⊎◌, List, [], ◌∷◌, ◌++◌, map, length, get_or, take, drop, set, replicate, Some, None, fold, Option, sym, refl, ap, ◌∙◌, subst, inl, inr, ⊎_elim, le_of_suc-le-suc, not-suc-le-zero, add-zero, add-suc, suc-add, zero-add, arith}
+use Rattle.std.proofs.Common.{◌≡◌, ℕ, zero, suc, ◌+◌, ◌-◌, ◌<◌, ◌≤◌, Bool, true, false, cond, T, eqb, ltb, leb, List, [], ◌∷◌, ◌++◌, map, length, get_or, take, drop, set, replicate, Some, None, fold, Option, sym, refl, ap, ◌∙◌, subst, inl, inr, ⊎_elim, le_of_suc-le-suc, not-suc-le-zero, add-zero, add-suc, suc-add, zero-add, arith}
 use Rattle.std.specs.List.{range_with_len, AllByRecursion as All}
 use Rattle.std.specs.Option.{option_map}
 use Rattle.std.proofs.lemmas.List.FromFn.{fill_by_all}
 use Rattle.std.proofs.ByRecursion.{All-get_or}
 use Rattle.std.proofs.lemmas.List.{length-set, length-append, length-replicate, length-drop, drop-set-lt, drop_at, get_or-take, take-append-drop, length-take-le, get_or-set_same, get_or-set_other, get_or_append_left, get_or-replicate}
 use Rattle.std.proofs.lemmas.Bool.{eq-eqb, eqb-true, lt-ltb, and_parts, and_from, cases_eq}
-use Rattle.network.specs.ListsLemmas.{some_same, none_some}
+use Rattle.network.specs.ListsLemmas.{some_same}
 use Rattle.network.specs.declared.arc.Arc.{Arc}
 use Rattle.network.specs.Lists.{In}
 use Rattle.network.specs.Net.{Net, WellFormed, ArcFits, arc_count, arc_at, no_arc}
@@ -15,7 +15,7 @@ use Rattle.length.specs.Walks.{usable, walk_length, arc_length}
 use Rattle.length.specs.Least.{shorter, least_total, least_totals, table_after, IsLeast, HoldsLeast}
 use Rattle.length.specs.Rounds.{first_table, tried, all_tried, rounds}
 use Rattle.length.proofs.Members.{in_counting}
-use Rattle.length.proofs.Least.{ValidO, AtMost, no_longer_refl, shorter_left, shorter_right, mapped_valid, mapped_at_most, Way, first_test, rest_way, way_rest, arc_there, arc_ok, walk_ok, Reached, reached_valid, settled, least_of_all, least_same}
+use Rattle.length.proofs.Least.{ValidO, AtMost, no_longer_refl, shorter_left, shorter_right, mapped_valid, mapped_at_most, Way, first_test, rest_way, way_rest, arc_there, walk_ok, Reached, reached_valid, settled, least_of_all, least_same}
 
 -- the numbers from a on, k of them, are below any number that is at least a + k
 counting_below : (n a k : ℕ) → a + k ≤ n → All (λ i. i < n) (range_with_len a k)

@@ -1,5 +1,5 @@
 -- When trying an arc changes nothing.
-use Rattle.std.proofs.Common.{◌≡◌, ℕ, ◌≤◌, Bool, true, false, cond, not, List, get_or, set, Some, None, Option, sym, refl, ap, ◌∙◌, le-leb}
+use Rattle.std.proofs.Common.{◌≡◌, ℕ, ◌≤◌, false, List, get_or, Some, None, Option, sym, refl, le-leb}
 use borrow.Author.Tests.{clash}
 use Rattle.std.proofs.lemmas.List.{set-get_or}
 use Rattle.std.proofs.lemmas.Bool.{not-false}

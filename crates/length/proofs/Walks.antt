@@ -1,12 +1,11 @@
 -- Lengths of walks: they are lengths, and a walk in two parts is as long as its parts joined.
-use Rattle.std.proofs.Common.{◌≡◌, ℕ, zero, suc, ◌+◌, ◌<◌, ◌≤◌, Bool, true, false, ◌&&◌, T, ltb, List, [], ◌∷◌, ◌++◌, length, get_or, Ok, Err, sym, refl, ap, ◌∙◌, le_of_suc-le-suc, not-suc-le-zero, arith, ltb→lt, lt→ltb}
-use Rattle.std.specs.List.{AllByRecursion as All}
+use Rattle.std.proofs.Common.{◌≡◌, ℕ, zero, suc, ◌<◌, ◌≤◌, Bool, true, false, ◌&&◌, T, ltb, List, [], ◌∷◌, ◌++◌, length, get_or, Ok, Err, sym, refl, ap, ◌∙◌, le_of_suc-le-suc, not-suc-le-zero, ltb→lt, lt→ltb}
 use Rattle.std.proofs.ByRecursion.{All-get_or}
 use Rattle.network.specs.Checks.{refusal}
 use Rattle.network.specs.Lists.{all_of}
 use Rattle.network.specs.Net.{Net, WellFormed, ArcFits, arc_count, arc_at, no_arc}
 use Rattle.length.specs.Model.{Model, Lawful}
-use Rattle.length.specs.Walks.{walk_length, arcs_outside, no_such_arc, row_answer}
+use Rattle.length.specs.Walks.{walk_length, arcs_outside, row_answer}
 use Rattle.std.proofs.lemmas.Bool.{le-ltb, and_right, or_from}
 
 both_left : (a b : Bool) → T (a && b) → T a

@@ -1,13 +1,13 @@
 -- The standard kinds keep the laws.
-use Rattle.std.specs.Prelude.{◌≡◌, ℕ, ◌+◌, ◌<◌, ◌≤◌, min, Bool, true, false, ◌||◌, T, nat_le, refl}
+use Rattle.std.specs.Prelude.{◌≡◌, ℕ, ◌≤◌, Bool, true, false, ◌||◌, T, nat_le, refl}
 use Rattle.std.proofs.Common.{arith, leb→le, le→leb}
 use borrow.Author.Tests.{leb-false, le-leb, clash}
 use Rattle.network.specs.declared.arc.Arc.{Arc}
 use Rattle.network.specs.Net.{ArcFits}
 use Rattle.length.specs.declared.standard.StandardKind.{StandardKind}
 use Rattle.length.specs.declared.standard.StandardKind.TheVariants.{Weight, Delay, Jitter, Charge, Hops, Width}
-use Rattle.length.specs.Model.{Model, Lawful}
-use Rattle.length.specs.Standard.{standard, adding, narrowing, capped_sum}
+use Rattle.length.specs.Model.{Lawful}
+use Rattle.length.specs.Standard.{standard, adding, narrowing}
 
 -- of two numbers one is at most the other
 either_test : (x y : Bool) → (x ≡ false → y ≡ true) → T (x || y)

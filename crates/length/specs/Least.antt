@@ -1,6 +1,6 @@
 -- Least totals: the least length of all walks from a site to the destination over usable arcs,
 -- repeated sites allowed; the empty walk counts at the destination. None says "no way".
-use Rattle.std.specs.Prelude.{◌≡◌, ℕ, zero, suc, ◌<◌, Bool, cond, ◌&&◌, ◌||◌, T, List, [], ◌∷◌, ◌++◌, map, length, drop, Some, None, filter, Option, Result, ◌==◌, ◌≢◌, nat_le, nat_lt, slice_index_or}
+use Rattle.std.specs.Prelude.{◌≡◌, ℕ, zero, suc, ◌<◌, cond, ◌&&◌, T, List, [], ◌∷◌, ◌++◌, map, length, drop, Some, None, filter, Option, Result, ◌==◌, ◌≢◌, nat_le, nat_lt, slice_index_or}
 use Rattle.std.specs.List.{range_with_len}
 use Rattle.std.specs.Option.{option_map}
 use Rattle.network.specs.Checks.{Told, refusal, first_failed, answered}

@@ -1,10 +1,8 @@
 -- How a table of least totals is filled: round after round, each arc is tried in turn. The contracts of the private steps
 -- cite these; what the table means in the end is said in Least.
 use Rattle.std.specs.Prelude.{ℕ, zero, suc, ◌<◌, Bool, true, cond, not, List, ◌++◌, drop, replicate, Some, None, fold, Option, nat_le, slice_index_or, slice_set}
-use Rattle.std.specs.List.{range_with_len}
 use Rattle.std.specs.Option.{option_map}
 use Rattle.network.specs.declared.arc.Arc.{Arc}
-use Rattle.network.specs.Net.{Net, arc_at, arc_count}
 use Rattle.length.specs.Model.{Model}
 use Rattle.length.specs.Least.{shorter}
 

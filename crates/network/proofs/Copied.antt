@@ -1,5 +1,5 @@
 -- A table into which the arcs of a network were listed holds them in its first places.
-use Rattle.std.proofs.Common.{◌≡◌, ℕ, List, ◌++◌, take, sym, refl, ap, ◌∙◌}
+use Rattle.std.proofs.Common.{◌≡◌, ℕ, List, ◌++◌, take, sym}
 use Rattle.std.proofs.lemmas.List.{take_at}
 use Rattle.network.specs.declared.arc.Arc.{Arc}
 use Rattle.network.specs.Net.{Net, arc_count}

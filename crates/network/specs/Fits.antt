@@ -1,12 +1,12 @@
 -- The limits as tests and as facts.
-use Rattle.std.specs.Prelude.{◌≡◌, ℕ, Bool, true, false, not, ◌&&◌, eqb, ltb, leb, List, [], ◌∷◌, refl}
+use Rattle.std.specs.Prelude.{◌≡◌, ℕ, true, not, List, [], ◌∷◌, refl}
 use Rattle.std.proofs.Common.{ap}
 use Rattle.std.specs.List.{AllByRecursion as All}
 use Rattle.std.proofs.lemmas.Bool.{and_parts, and_from, eqb-false, leb-true, ltb-true, not-true, lt-ltb, le-leb, ne_eqb}
 use Rattle.network.specs.declared.arc.Arc.{Arc}
 use Rattle.network.specs.Limits.{arc_fits, net_fits}
 use Rattle.network.specs.Lists.{all_of}
-use Rattle.network.specs.Net.{Net, ArcFits, WellFormed, arc_count}
+use Rattle.network.specs.Net.{Net, ArcFits, WellFormed}
 
 pub one_fits : (sites : ℕ) (arc : Arc) → arc_fits sites arc ≡ true → ArcFits sites arc
 one_fits sites arc e =

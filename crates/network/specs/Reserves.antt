@@ -1,5 +1,5 @@
 -- Lemmas on headroom: the arcs below with their capacities lessened keep the limits, and what is at a number.
-use Rattle.std.specs.Prelude.{◌≡◌, ℕ, map, length, Option}
+use Rattle.std.specs.Prelude.{◌≡◌, ℕ, Option}
 use Rattle.std.proofs.Common.{sym, ap, ◌∙◌, arith}
 use Rattle.std.specs.Option.{option_map}
 use Rattle.std.proofs.ByRecursion.{All-map, All-weaker}

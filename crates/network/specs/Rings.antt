@@ -1,6 +1,6 @@
 -- Lemmas on ring plans: how many arcs there are, which stands at a number, and that they keep the limits.
-use Rattle.std.specs.Prelude.{◌≡◌, ℕ, zero, suc, ◌+◌, ◌*◌, ◌/◌, ◌%◌, ◌<◌, ◌≤◌, cond, List, [], ◌∷◌, length, Some, None, ◌==◌, ◌≢◌}
-use Rattle.std.proofs.Common.{⊎_elim, sym, ap, mod-eq_of_lt}
+use Rattle.std.specs.Prelude.{◌≡◌, ℕ, zero, suc, ◌+◌, ◌*◌, ◌/◌, ◌%◌, ◌<◌, ◌≤◌, cond, List, length, Some, None, ◌==◌, ◌≢◌}
+use Rattle.std.proofs.Common.{⊎_elim, sym, mod-eq_of_lt}
 use Rattle.std.proofs.Math.Path.{refl}
 use Rattle.std.proofs.Math.Nat.{mod-lt, mod_self, add-zero}
 use native.Mathlib.Omega.{arith}

@@ -1,15 +1,15 @@
 -- The choice among the lines looked at, one line more; and the order of lines.
-use Rattle.std.proofs.Common.{◌≡◌, ℕ, ◌+◌, ◌<◌, ◌≤◌, Bool, true, false, not, ◌&&◌, ◌||◌, T, ◌⊎◌, List, Some, None, Option, sym, refl, ap, ◌∙◌, subst, inl, inr, ⊎_elim, arith}
+use Rattle.std.proofs.Common.{◌≡◌, ℕ, ◌+◌, ◌<◌, Bool, true, false, not, ◌||◌, T, ◌⊎◌, List, Some, None, Option, sym, refl, ap, ◌∙◌, subst, inl, inr, ⊎_elim, arith}
 use borrow.Author.Tests.{clash}
 use Rattle.std.specs.List.{slice_get}
-use Rattle.std.proofs.lemmas.Bool.{and_from, and_parts, cases_lt, or_cases, or_left, or_right, not-true}
+use Rattle.std.proofs.lemmas.Bool.{and_from, and_parts, cases_lt, or_cases, not-true}
 use Rattle.network.specs.ListsLemmas.{some_same}
 use Rattle.network.specs.Lists.{place_by_place}
 use Rattle.length.specs.Model.{Model, Lawful}
 use Rattle.length.proofs.Least.{T_true, true_T}
 use Rattle.routes.specs.declared.line.Line.{Line}
 use Rattle.routes.specs.Lines.{line_route}
-use Rattle.routes.specs.Choice.{AllSound, AllTaken, Chosen, FirstLine, Sound, better, line_before}
+use Rattle.routes.specs.Choice.{AllSound, Chosen, Sound, better, line_before}
 use Rattle.routes.proofs.Orders.{place_total, place_trans}
 
 -- a number below the next is below or is the last

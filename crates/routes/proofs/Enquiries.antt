@@ -1,7 +1,6 @@
 -- What an enquiry has once the checks before the work have passed, and its answer then.
-use Rattle.std.proofs.Common.{◌≡◌, ℕ, ◌<◌, ◌≤◌, min, Bool, true, false, cond, ◌||◌, eqb, ltb, leb, List, [], ◌∷◌, ◌++◌, map, length, get_or, drop, Some, None, Ok, Err, Option, sym, refl, ap, ◌∙◌, subst, arith, ltb-false}
+use Rattle.std.proofs.Common.{◌≡◌, ℕ, ◌<◌, ◌≤◌, min, Bool, true, false, cond, ◌||◌, eqb, ltb, leb, List, length, drop, Some, None, Ok, Err, Option, sym, refl, ap, ◌∙◌, subst, arith, ltb-false}
 use borrow.Author.Tests.{clash}
-use Rattle.std.specs.List.{range_with_len}
 use Rattle.std.proofs.lemmas.List.FromFn.{get_or-map-range_with_len, length-map-range_with_len}
 use Rattle.std.proofs.lemmas.List.{get_or_append_left, length-append}
 use Rattle.std.proofs.lemmas.Bool.{eqb-false, leb-false, le-ltb, lt-ltb, ltb-true}
@@ -11,7 +10,6 @@ use Rattle.network.specs.ListsLemmas.{none_some}
 use Rattle.length.specs.Model.{Model}
 use Rattle.length.specs.Least.{least_total, least_totals, table_after}
 use Rattle.routes.specs.declared.checking.Sizes.{Sizes}
-use Rattle.routes.specs.declared.enquiry.Enquiry.{Enquiry}
 use Rattle.routes.specs.Enquire.{Brought, Tables, checks_before, early_checks, enquiry_answer, enquiry_outcome, filled_tables, found, shorter_than, too_few_lines}
 use Rattle.routes.specs.Lent.{routes_answer, routes_list}
 use Rattle.routes.specs.Routes.{list_after, route_list}

@@ -1,23 +1,23 @@
 -- The list of routes is the one that is asked for: all feasible routes are enumerated, each once, and sorted.
-use Rattle.std.proofs.Common.{◌≡◌, ℕ, zero, suc, ◌+◌, ◌<◌, ◌≤◌, min, Bool, true, false, cond, not, ◌&&◌, ◌||◌, T, eqb, ltb, leb, ◌⊎◌, List, [], ◌∷◌, ◌++◌, map, length, take, Some, None, filter, Option, sym, refl, ap, ◌∙◌, subst, inl, inr, ⊎_elim, zero-add, arith, length-append}
+use Rattle.std.proofs.Common.{◌≡◌, ℕ, zero, suc, ◌<◌, ◌≤◌, min, Bool, true, ◌&&◌, T, ltb, leb, List, [], ◌∷◌, ◌++◌, map, length, Some, None, Option, sym, refl, ap, ◌∙◌, subst, inl, inr, ⊎_elim, zero-add, arith, length-append}
 use borrow.Author.Tests.{clash}
-use Rattle.std.specs.List.{range_with_len, flat_map, AllByRecursion as All}
+use Rattle.std.specs.List.{range_with_len, flat_map}
 use Rattle.std.proofs.lemmas.List.{map-append}
 use Rattle.std.proofs.lemmas.Bool.{ltb-true, lt-ltb, leb-true, le-leb, eqb-true, eq-eqb, and_parts, and_from}
-use Rattle.network.specs.Lists.{In, all_of, distinct, sort}
+use Rattle.network.specs.Lists.{In, distinct, sort}
 use Rattle.network.specs.Net.{Net, WellFormed, arc_at, arc_count}
-use Rattle.length.specs.Model.{Model, Lawful}
+use Rattle.length.specs.Model.{Model}
 use Rattle.length.specs.declared.standard.StandardKind.TheVariants.{Delay, Jitter, Charge, Hops}
 use Rattle.length.specs.Standard.{standard}
-use Rattle.length.specs.Walks.{follow, sites_along, walk_length}
+use Rattle.length.specs.Walks.{sites_along, walk_length}
 use Rattle.length.specs.Lawful.{standard_lawful}
 use Rattle.length.proofs.Walks.{there, walk_valid}
 use Rattle.length.proofs.Members.{in_map, from_map, in_kept, from_kept, in_counting}
 use Rattle.length.proofs.Least.{true_T, T_true, walk_there, arc_there}
 use Rattle.routes.specs.declared.enquiry.Enquiry.{Enquiry}
-use Rattle.routes.specs.Totals.{limits_of, total}
-use Rattle.routes.specs.Routes.{extended, end_of, is_path, is_complete, some_site, at_site, paths_of, paths, is_route, is_within_limits, feasible_routes, route_order, route_list, by_length}
-use Rattle.routes.specs.Listing.{Feasible, InOrder, Before, Lists, RouteListLists}
+use Rattle.routes.specs.Totals.{total}
+use Rattle.routes.specs.Routes.{extended, end_of, is_path, is_complete, some_site, at_site, paths_of, paths, is_route, is_within_limits, feasible_routes, route_order}
+use Rattle.routes.specs.Listing.{Feasible, InOrder, RouteListLists}
 use Rattle.routes.proofs.Parents.{follow_push, distinct_front, some_there}
 use Rattle.routes.proofs.Sorting.{Unique, all_in, from_take, from_sort, into_sort, sort_rising, take_rising, first_or_after, as_many}
 use Rattle.routes.proofs.Once.{in_joined, from_joined, unique_map, unique_kept, unique_counting, unique_joined, push_parts, last_of}

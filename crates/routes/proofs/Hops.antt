@@ -1,10 +1,9 @@
 -- The hops of a row of arcs are its number of arcs, and an admissible partial route that has not arrived has fewer than 15.
-use Rattle.std.proofs.Common.{◌≡◌, ℕ, zero, suc, ◌+◌, ◌<◌, ◌≤◌, min, Bool, true, false, ◌&&◌, T, eqb, leb, List, [], ◌∷◌, ◌++◌, length, is_some, Some, None, Option, sym, refl, ap, ◌∙◌, subst, arith}
+use Rattle.std.proofs.Common.{◌≡◌, ℕ, ◌<◌, ◌≤◌, min, true, false, eqb, List, [], ◌∷◌, length, is_some, Some, None, Option, refl, ap, ◌∙◌, subst, arith}
 use borrow.Author.Tests.{clash}
 use Rattle.std.specs.Option.{option_map}
 use Rattle.std.proofs.lemmas.Bool.{and_parts, eqb-false, leb-true}
-use Rattle.network.specs.ListsLemmas.{some_same, none_some}
-use Rattle.network.specs.Lists.{all_of}
+use Rattle.network.specs.ListsLemmas.{some_same}
 use Rattle.network.specs.Net.{Net, WellFormed}
 use Rattle.length.specs.declared.standard.StandardKind.TheVariants.{Delay, Jitter, Charge, Hops}
 use Rattle.length.specs.Model.{Model}
@@ -14,7 +13,7 @@ use Rattle.length.specs.Least.{IsLeast, least_total}
 use Rattle.length.specs.Lawful.{standard_lawful}
 use Rattle.length.proofs.Least.{least_of_all}
 use Rattle.routes.specs.declared.enquiry.Enquiry.{Enquiry}
-use Rattle.routes.specs.Totals.{limits_of, total}
+use Rattle.routes.specs.Totals.{total}
 use Rattle.routes.specs.Routes.{end_of}
 use Rattle.routes.specs.Partial.{is_admissible, at_most, projected, projected_length}
 use Rattle.routes.proofs.Parents.{end_below}

@@ -1,7 +1,7 @@
 -- Rows written one after another, and the rows of the routes that an enquiry asks for.
-use Rattle.std.proofs.Common.{◌≡◌, ℕ, zero, suc, ◌+◌, ◌-◌, ◌<◌, ◌≤◌, List, [], ◌∷◌, map, length, get_or, take, replicate, Some, None, Option, sym, refl, ap, ◌∙◌, subst, le_of_suc-le-suc, not-suc-le-zero, arith}
-use Rattle.std.specs.List.{range_with_len, slice_get}
-use Rattle.std.proofs.lemmas.List.FromFn.{fill_by_all, get_or-map-range_with_len, length-map-range_with_len}
+use Rattle.std.proofs.Common.{◌≡◌, ℕ, zero, suc, ◌+◌, ◌-◌, ◌<◌, ◌≤◌, List, [], ◌∷◌, map, length, get_or, take, replicate, Some, None, Option, sym, ap, ◌∙◌, arith}
+use Rattle.std.specs.List.{slice_get}
+use Rattle.std.proofs.lemmas.List.FromFn.{fill_by_all}
 use Rattle.std.proofs.lemmas.List.{get_or-map, length-append, length-map, length-replicate}
 use Rattle.network.specs.ListsLemmas.{none_some}
 use Rattle.network.specs.Lists.{In, sort}
@@ -12,7 +12,7 @@ use Rattle.routes.specs.declared.enquiry.RouteRow.{RouteRow}
 use Rattle.routes.specs.declared.line.Line.{Line}
 use Rattle.routes.specs.declared.taking.Work.{Work}
 use Rattle.routes.specs.Routes.{feasible_routes, route_list, route_order, row_of}
-use Rattle.routes.specs.Lines.{Asked, line_of}
+use Rattle.routes.specs.Lines.{Asked}
 use Rattle.routes.specs.Rows.{PlacesInside, no_row, row_at, row_on, rows_at}
 use Rattle.routes.specs.Work.{Ended}
 use Rattle.routes.proofs.Lines.{few_hops}

@@ -1,8 +1,8 @@
 -- Whether a row of arcs meets a site, place by place.
-use Rattle.std.proofs.Common.{◌≡◌, ℕ, zero, suc, ◌+◌, ◌<◌, ◌≤◌, Bool, true, false, ◌||◌, eqb, ltb, List, [], ◌∷◌, ◌++◌, map, length, get_or, take, sym, refl, ap, ◌∙◌, subst, le_of_suc-le-suc, not-suc-le-zero, arith}
+use Rattle.std.proofs.Common.{◌≡◌, ℕ, zero, suc, ◌+◌, ◌<◌, ◌≤◌, true, false, ◌||◌, eqb, ltb, List, [], ◌∷◌, map, length, get_or, take, sym, ap, ◌∙◌, subst, le_of_suc-le-suc, not-suc-le-zero, arith}
 use Rattle.std.proofs.lemmas.List.{get_or-take, length-take-le, take_more}
 use Rattle.std.proofs.lemmas.Bool.{and_parts, eq-eqb, ne_eqb, ltb-true, or_from, or_right}
-use Rattle.network.specs.Lists.{all_of, among}
+use Rattle.network.specs.Lists.{among}
 use Rattle.network.specs.Net.{Net, arc_at, arc_count}
 use Rattle.length.specs.Walks.{sites_along}
 use Rattle.routes.specs.Lines.{there}

@@ -1,11 +1,11 @@
 -- What is known of a line that is that of an admissible partial route.
-use Rattle.std.proofs.Common.{◌≡◌, ℕ, ◌+◌, ◌-◌, ◌<◌, ◌≤◌, Bool, true, false, cond, not, ◌&&◌, T, eqb, ltb, leb, List, [], ◌∷◌, ◌++◌, length, replicate, Some, None, Option, sym, refl, ap, ◌∙◌, subst, arith}
+use Rattle.std.proofs.Common.{◌≡◌, ℕ, ◌+◌, ◌-◌, ◌<◌, Bool, true, false, cond, not, ◌&&◌, eqb, ltb, leb, List, length, replicate, Some, None, Option, sym, refl, ap, ◌∙◌, subst, arith}
 use Rattle.std.proofs.ByRecursion.{All-get_or}
 use Rattle.std.proofs.lemmas.List.{length-append, length-replicate}
 use Rattle.std.proofs.lemmas.Bool.{and_parts, ltb-true}
 use Rattle.network.specs.ListsLemmas.{some_same, none_some}
 use Rattle.network.specs.declared.arc.Arc.{Arc}
-use Rattle.network.specs.Lists.{all_of, among}
+use Rattle.network.specs.Lists.{among}
 use Rattle.network.specs.Net.{Net, ArcFits, WellFormed, arc_at, arc_count, no_arc}
 use Rattle.length.specs.Model.{Model, Lawful}
 use Rattle.length.specs.Walks.{sites_along, usable}
@@ -15,7 +15,7 @@ use Rattle.routes.specs.declared.line.Line.{Line}
 use Rattle.routes.specs.declared.filling.LentTables.{LentTables}
 use Rattle.routes.specs.Routes.{at_site, is_complete, end_of, is_path, some_site}
 use Rattle.routes.specs.Partial.{is_admissible, is_partial}
-use Rattle.routes.specs.Lines.{Asked, EndsInside, OnLine, RestsHold, following_arc, line_of, line_route, next_line, stretched_within, there}
+use Rattle.routes.specs.Lines.{Asked, EndsInside, OnLine, RestsHold, following_arc, line_route, next_line, stretched_within, there}
 use Rattle.routes.proofs.Hops.{still_short}
 use Rattle.routes.proofs.Parents.{some_there, walk_in}
 use Rattle.routes.proofs.Stretch.{next_step}

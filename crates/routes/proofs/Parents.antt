@@ -1,13 +1,12 @@
 -- A partial route comes before each that is one arc longer: the longer one is admissible only if the
 -- shorter one is, and its projected length is no less.
-use Rattle.std.proofs.Common.{◌≡◌, ℕ, zero, suc, ◌+◌, ◌<◌, ◌≤◌, Bool, true, false, cond, not, ◌&&◌, ◌||◌, T, eqb, ltb, leb, ◌⊎◌, List, [], ◌∷◌, ◌++◌, map, length, is_some, Some, None, Option, sym, refl, ap, ◌∙◌, subst, inl, inr, ⊎_elim, arith, leb→le}
+use Rattle.std.proofs.Common.{◌≡◌, ℕ, ◌<◌, ◌≤◌, Bool, true, false, cond, not, ◌&&◌, T, eqb, List, [], ◌∷◌, ◌++◌, map, is_some, Some, None, Option, sym, refl, ap, ◌∙◌, subst, arith, leb→le}
 use borrow.Author.Tests.{clash}
 use Rattle.std.specs.Option.{option_map}
-use Rattle.std.specs.List.{AllByRecursion as All}
 use Rattle.std.proofs.lemmas.List.{map-append}
-use Rattle.std.proofs.lemmas.Bool.{leb-true, le-leb, eqb-true, eq-eqb, and_parts, and_from, or_parts, or_from, or_right, not-true, not_from_false}
-use Rattle.network.specs.Lists.{all_of, any_of, among, distinct, place_by_place}
-use Rattle.network.specs.Net.{Net, WellFormed, arc_at, arc_count}
+use Rattle.std.proofs.lemmas.Bool.{leb-true, le-leb, eq-eqb, and_parts, and_from, or_parts, or_from, or_right, not-true, not_from_false}
+use Rattle.network.specs.Lists.{all_of, among, distinct, place_by_place}
+use Rattle.network.specs.Net.{Net, WellFormed, arc_at}
 use Rattle.length.specs.Model.{Model, Lawful}
 use Rattle.length.specs.declared.standard.StandardKind.{StandardKind}
 use Rattle.length.specs.declared.standard.StandardKind.TheVariants.{Delay, Jitter, Charge, Hops}
@@ -17,11 +16,11 @@ use Rattle.length.specs.Least.{least_total, IsLeast}
 use Rattle.length.specs.Lawful.{standard_lawful}
 use Rattle.length.proofs.Walks.{there, walk_push, walk_valid}
 use Rattle.network.specs.ListsLemmas.{some_same, none_some}
-use Rattle.length.proofs.Least.{true_T, T_true, split, rest_way, way_rest, arc_there, walk_there, arc_ok, walk_ok, to_below, first_test, least_of_all}
+use Rattle.length.proofs.Least.{T_true, way_rest, arc_there, walk_there, arc_ok, walk_ok, to_below, least_of_all}
 use Rattle.routes.specs.declared.enquiry.Enquiry.{Enquiry}
 use Rattle.routes.specs.Totals.{Limit, limits_of}
-use Rattle.routes.specs.Routes.{end_of, is_path, some_site, by_length}
-use Rattle.routes.specs.Partial.{at_most, no_longer, is_partial, rest_from, projected, projected_length, is_admissible, partial_order}
+use Rattle.routes.specs.Routes.{end_of, is_path, some_site}
+use Rattle.routes.specs.Partial.{at_most, no_longer, is_partial, rest_from, projected}
 use Rattle.routes.specs.Listing.{ParentsComeFirst}
 
 pub among_front : (x : ℕ) (xs ys : List ℕ) → among x (xs ++ ys) ≡ false → among x xs ≡ false

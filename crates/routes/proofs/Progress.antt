@@ -1,12 +1,10 @@
 -- Taking lines: which line is next, that none is left out, and what is new when a line is taken.
-use Rattle.std.proofs.Common.{◌≡◌, ℕ, zero, suc, ◌+◌, ◌-◌, ◌<◌, ◌≤◌, Bool, true, false, cond, not, ◌&&◌, ◌||◌, T, ◌⊎◌, List, [], ◌∷◌, ◌++◌, map, length, get_or, take, drop, replicate, Some, None, filter, Option, unwrap_or, sym, refl, ap, ◌∙◌, subst, inl, inr, ⊎_elim, add-zero, suc-add, zero-add, arith}
-use borrow.Author.Tests.{clash}
-use Rattle.std.specs.List.{range_with_len, slice_get}
+use Rattle.std.proofs.Common.{◌≡◌, ℕ, zero, suc, ◌+◌, ◌-◌, ◌<◌, ◌≤◌, Bool, true, false, cond, not, ◌&&◌, ◌||◌, T, List, [], ◌∷◌, ◌++◌, length, get_or, take, drop, replicate, Some, filter, Option, unwrap_or, sym, refl, ap, ◌∙◌, subst, inl, inr, add-zero, suc-add, zero-add, arith}
+use Rattle.std.specs.List.{range_with_len}
 use Rattle.std.proofs.lemmas.List.{append-nil, get_or-take, length-append, length-replicate, length-take, take-append-drop, take_at, take-take}
-use Rattle.std.proofs.lemmas.Bool.{and_from}
 use Rattle.network.specs.ListsLemmas.{some_same}
 use Rattle.network.specs.Lists.{In, place_by_place}
-use Rattle.network.specs.Net.{Net, WellFormed, arc_count}
+use Rattle.network.specs.Net.{Net, WellFormed}
 use Rattle.length.specs.Model.{Model, Lawful}
 use Rattle.routes.specs.declared.enquiry.Enquiry.{Enquiry}
 use Rattle.routes.specs.declared.line.Line.{Line}
@@ -15,8 +13,8 @@ use Rattle.routes.specs.Partial.{admissible_of, is_admissible, no_longer, partia
 use Rattle.routes.specs.Lines.{Asked, line_of, line_route, is_writable}
 use Rattle.routes.specs.Choice.{AllSound, AllTaken, FirstLine, Sound, line_before}
 use Rattle.routes.specs.Work.{Noted}
-use Rattle.routes.proofs.Lines.{Admitted, at_place, few_hops, first_is_written, projects, written_admitted}
-use Rattle.routes.proofs.Noted.{in_either, in_index, in_left, in_right}
+use Rattle.routes.proofs.Lines.{Admitted, few_hops, first_is_written, projects, written_admitted}
+use Rattle.routes.proofs.Noted.{in_index, in_left, in_right}
 use Rattle.routes.proofs.Places.{in_getD}
 use Rattle.routes.proofs.Sorting.{Unique}
 use Rattle.routes.proofs.Written.{first_of, more_than, none_left, written_append, written_more, written_once}

@@ -1,10 +1,8 @@
 -- The line of the empty partial route is what the code makes of the least totals from the source.
-use Rattle.std.proofs.Common.{◌≡◌, ℕ, ◌<◌, Bool, true, false, cond, ◌&&◌, List, [], ◌∷◌, get_or, is_some, Some, None, Option, sym, refl, ap, ◌∙◌}
+use Rattle.std.proofs.Common.{◌≡◌, ℕ, Bool, true, false, cond, ◌&&◌, List, [], get_or, Some, None, Option, sym, refl, ap, ◌∙◌}
 use Rattle.std.specs.Option.{option_map}
 use Rattle.network.specs.Lists.{all_of}
 use Rattle.network.specs.Net.{Net}
-use Rattle.length.specs.declared.standard.StandardKind.{StandardKind}
-use Rattle.length.specs.declared.standard.StandardKind.TheVariants.{Delay, Jitter, Charge, Hops}
 use Rattle.length.specs.Model.{Model}
 use Rattle.length.specs.Standard.{capped_sum, standard}
 use Rattle.length.specs.Least.{least_total}

@@ -1,21 +1,20 @@
 -- One arc more: what becomes of a partial route's end, sites, totals and limits.
-use Rattle.std.proofs.Common.{◌≡◌, ℕ, zero, suc, ◌+◌, ◌-◌, ◌<◌, ◌≤◌, Bool, true, false, cond, not, ◌&&◌, ◌||◌, T, eqb, ltb, leb, List, [], ◌∷◌, ◌++◌, map, length, get_or, take, set, replicate, is_some, Some, None, Option, unwrap_or, sym, refl, ap, ◌∙◌, subst, arith}
-use borrow.Author.Tests.{clash}
+use Rattle.std.proofs.Common.{◌≡◌, ℕ, ◌<◌, Bool, true, false, cond, not, ◌&&◌, ◌||◌, eqb, ltb, leb, List, [], ◌∷◌, ◌++◌, Some, None, sym, refl, ap, ◌∙◌, arith}
 use Rattle.std.specs.Option.{option_map}
 use Rattle.std.proofs.lemmas.List.{map-append}
 use Rattle.std.proofs.lemmas.Bool.Decides.{nat_tests}
-use Rattle.std.proofs.lemmas.Bool.{and_parts, and_from, eqb-true, eq-eqb, ne_eqb, ltb-true, not-true}
-use Rattle.network.specs.ListsLemmas.{some_same, none_some}
-use Rattle.network.specs.Lists.{all_of, among, any_of, distinct}
+use Rattle.std.proofs.lemmas.Bool.{and_parts, eqb-true, ltb-true}
+use Rattle.network.specs.ListsLemmas.{some_same}
+use Rattle.network.specs.Lists.{all_of, among, distinct}
 use Rattle.network.specs.Net.{Net, WellFormed, arc_at, arc_count}
 use Rattle.length.specs.Model.{Model, Lawful}
 use Rattle.length.specs.Walks.{usable, follow, sites_along, walk_length, arc_length}
 use Rattle.length.specs.Least.{least_total}
-use Rattle.length.proofs.Walks.{there, walk_push}
+use Rattle.length.proofs.Walks.{walk_push}
 use Rattle.routes.specs.declared.enquiry.Enquiry.{Enquiry}
-use Rattle.routes.specs.Routes.{end_of, is_path, is_complete, some_site, at_site}
+use Rattle.routes.specs.Routes.{end_of, is_path, some_site}
 use Rattle.routes.specs.Partial.{is_partial, projected, rest_from}
-use Rattle.routes.proofs.Parents.{test, cut, some_there, walk_in}
+use Rattle.routes.proofs.Parents.{test, cut, walk_in}
 
 pub or_assoc : (a b c : Bool) → ((a || b) || c) ≡ (a || (b || c))
 or_assoc true b c = refl

@@ -1,6 +1,5 @@
 -- The line of a partial route that is one arc longer is what the code makes of its line.
-use Rattle.std.proofs.Common.{◌≡◌, ℕ, zero, suc, ◌+◌, ◌-◌, ◌<◌, ◌≤◌, Bool, true, false, cond, not, ◌&&◌, T, eqb, ltb, leb, List, [], ◌∷◌, ◌++◌, length, get_or, take, set, replicate, is_some, Some, None, Option, unwrap_or, sym, refl, ap, ◌∙◌, subst, add-one, arith}
-use borrow.Author.Tests.{clash}
+use Rattle.std.proofs.Common.{◌≡◌, ℕ, suc, ◌+◌, ◌-◌, ◌<◌, Bool, true, false, cond, not, ◌&&◌, eqb, ltb, leb, List, [], ◌∷◌, ◌++◌, length, get_or, set, replicate, is_some, Some, None, Option, unwrap_or, sym, refl, ap, ◌∙◌, arith}
 use Rattle.std.specs.Option.{option_map}
 use Rattle.std.proofs.lemmas.List.{append_assoc, length_push, set_at, take_at}
 use Rattle.std.proofs.lemmas.Bool.{and_parts, ltb-true}
@@ -19,10 +18,10 @@ use Rattle.length.proofs.Walks.{walk_push}
 use Rattle.routes.specs.declared.enquiry.Enquiry.{Enquiry}
 use Rattle.routes.specs.declared.line.Line.{Line}
 use Rattle.routes.specs.declared.filling.LentTables.{LentTables}
-use Rattle.routes.specs.Totals.{limits_of, total}
+use Rattle.routes.specs.Totals.{limits_of}
 use Rattle.routes.specs.Routes.{end_of}
 use Rattle.routes.specs.Partial.{is_admissible, at_most, is_partial, projected, projected_length}
-use Rattle.routes.specs.Lines.{HoldsRests, RestsHold, fits_limits, following_arc, line_of, line_route, next_line, stretched, stretched_within, is_writable}
+use Rattle.routes.specs.Lines.{HoldsRests, RestsHold, fits_limits, following_arc, line_of, line_route, next_line, stretched, stretched_within}
 use Rattle.routes.proofs.Hops.{hops_count}
 use Rattle.routes.proofs.Parents.{test, walk_in}
 use Rattle.routes.proofs.Steps.{and_true, can_follow, end_step, partial_step, projected_step}

@@ -1,6 +1,5 @@
 -- The work as it goes on: what holds after so many lines were taken, and while one is made longer.
-use Rattle.std.proofs.Common.{◌≡◌, ℕ, zero, suc, ◌+◌, ◌-◌, ◌<◌, ◌≤◌, Bool, true, false, cond, not, ◌&&◌, T, eqb, ◌⊎◌, List, [], ◌∷◌, ◌++◌, map, length, get_or, take, drop, set, Some, None, filter, Option, unwrap_or, sym, refl, ap, ◌∙◌, subst, inl, inr, ⊎_elim, zero-add, arith}
-use borrow.Author.Tests.{clash}
+use Rattle.std.proofs.Common.{◌≡◌, ℕ, ◌+◌, ◌-◌, ◌<◌, ◌≤◌, Bool, true, false, cond, eqb, List, [], ◌∷◌, ◌++◌, map, length, get_or, take, set, Some, None, filter, Option, unwrap_or, sym, refl, ap, ◌∙◌, subst, ⊎_elim, zero-add, arith}
 use Rattle.std.specs.List.{range_with_len, slice_get}
 use Rattle.std.proofs.lemmas.List.FromFn.{map-range_with_len_more}
 use Rattle.std.proofs.lemmas.List.{append_assoc, append-nil, get_or_append_left, get_or_push, get_or-set_other, get_or-set_same, length-append, length_push, length-set, length-take-le, map-append, take_more}
@@ -17,12 +16,12 @@ use Rattle.routes.specs.Routes.{at_site, is_complete, end_of, extended, is_path,
 use Rattle.routes.specs.Partial.{admissible_of, line_count, partial_routes, is_partial, taken, written}
 use Rattle.routes.specs.Lines.{Asked, OnLine, line_of, line_route, next_line, is_writable}
 use Rattle.routes.specs.Choice.{AllTaken, FirstLine}
-use Rattle.routes.specs.Work.{Completed, Ended, Noted, OneLine, WorkDone, marked, notebook_after, used_after}
+use Rattle.routes.specs.Work.{Completed, Noted, OneLine, WorkDone, marked, notebook_after, used_after}
 use Rattle.routes.proofs.Lines.{Admitted, at_place, in_admissible_of}
 use Rattle.routes.proofs.Noted.{few_of, noted_mark, noted_write}
 use Rattle.routes.proofs.Parents.{some_there}
 use Rattle.routes.proofs.Places.{unique_take}
-use Rattle.routes.proofs.Progress.{admissible_append, admissible_push, counting_split, all_sound, kept_push, new_line, next_is, none_more, route_on, written_so_far}
+use Rattle.routes.proofs.Progress.{admissible_append, admissible_push, counting_split, kept_push, new_line, next_is, none_more, route_on, written_so_far}
 use Rattle.routes.proofs.Taken.{taken_lists_the_routes}
 use Rattle.routes.proofs.Written.{complete_of, lines_more, lines_so_far, taken_end, partial_once, taken_stop, written_empty, written_more, written_once}
 

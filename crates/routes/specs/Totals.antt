@@ -1,5 +1,5 @@
 -- The four totals that have limits.
-use Rattle.std.specs.Prelude.{ℕ, Bool, List, [], ◌∷◌}
+use Rattle.std.specs.Prelude.{ℕ, List, [], ◌∷◌}
 use Rattle.network.specs.Net.{Net}
 use Rattle.length.specs.declared.standard.StandardKind.{StandardKind}
 use Rattle.length.specs.declared.standard.StandardKind.TheVariants.{Delay, Jitter, Charge, Hops}

@@ -7,7 +7,7 @@ use Rattle.std.proofs.lemmas.List.{drop-drop, drop-take, drop_more}
 use Rattle.std.proofs.lemmas.List.Sums.{fold_more}
 use Rattle.std.proofs.lemmas.Bool.{and_parts, and_from, leb-true, ltb-true, le-leb, lt-ltb, cond-true}
 use Rattle.sheet.specs.declared.reader.Field.{Field}
-use Rattle.sheet.specs.Bits.{bits, number, bits_of, field}
+use Rattle.sheet.specs.Bits.{number, bits_of, field}
 use Rattle.sheet.specs.Fields.{bits_there, bits_left, next_field, next_position, skip_position}
 use Rattle.sheet.specs.Steps.{field_at}
 use Rattle.sheet.specs.Rows.{Row, number_take_lt, number_middle}

@@ -10,7 +10,7 @@ use Rattle.std.proofs.lemmas.Bool.{ltb-false, leb-false, eqb-false, eqb-true, or
 use Rattle.network.specs.Checks.{Told, first_failed, answered, refusal, refusal_at}
 use Rattle.network.specs.Net.{ArcFits, WellFormed, arc_count, arc_of, no_arc}
 use Rattle.sheet.specs.declared.reading.Head.{Head}
-use Rattle.sheet.specs.Bits.{bits, number, bits_of, bytes_of, field}
+use Rattle.sheet.specs.Bits.{bits, bits_of, bytes_of, field}
 use Rattle.sheet.specs.Layout.{arc_bits, sheet_bits, sheet_of, sheet_size, kept_bytes, arc_in, net_in, sites_in, arcs_in, arc_checks, read_checks, read_answer, from_position, to_position}
 use Rattle.sheet.specs.Steps.{head_in, head_checks, end_checks, field_at}
 use Rattle.sheet.specs.Rows.{bits_number}

@@ -1,5 +1,5 @@
 -- The total so far is the length of the arcs passed; where an arc is not there, that check failed.
-use Rattle.std.proofs.Common.{◌≡◌, ◌+◌, true, T, [], ◌∷◌, ◌++◌, get_or, take, sym, ap, ◌∙◌, arith, take_all, rules}
+use Rattle.std.proofs.Common.{◌≡◌, true, get_or, take, sym, arith, take_all}
 use Rattle.std.proofs.lemmas.List.{take_more}
 use Rattle.network.specs.ListsLemmas.{nth_some, nth_none}
 use Rattle.network.specs.Net.{no_arc}

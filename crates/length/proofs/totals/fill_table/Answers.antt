@@ -1,5 +1,5 @@
 -- A round that changes nothing leaves the same table as all rounds.
-use Rattle.std.proofs.Common.{◌≡◌, set, Some, sym, refl, ap, ◌∙◌, add-one, arith}
+use Rattle.std.proofs.Common.{◌≡◌, set, Some, sym, ap, ◌∙◌, add-one, arith}
 use Rattle.length.specs.Rounds.{first_table, rounds, all_tried}
 use Rattle.length.proofs.Rounds.{rounds_early, rounds_more}
 use Rattle.length.proofs.totals.fill_table.Goals as goal

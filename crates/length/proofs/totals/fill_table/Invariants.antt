@@ -1,6 +1,6 @@
 -- So many rounds are done.
 use Rattle.std.proofs.Common.{◌≡◌}
-use Rattle.length.specs.Rounds.{first_table, rounds}
+use Rattle.length.specs.Rounds.{rounds}
 use Rattle.length.proofs.totals.fill_table.Given as goal
 
 abbrev pub invariant-loop-round : goal.invariant-loop-round

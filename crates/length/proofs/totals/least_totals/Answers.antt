@@ -1,6 +1,5 @@
 -- The rounds over the arcs as listed leave the least totals.
-use Rattle.std.proofs.Common.{◌≡◌, ◌-◌, ◌≤◌, length, take, drop, sym, refl, ◌∙◌, arith}
-use Rattle.network.specs.Net.{arc_count}
+use Rattle.std.proofs.Common.{◌-◌, ◌≤◌, length, take, ◌∙◌, arith}
 use Rattle.length.proofs.Granted.{listed_arcs, arcs_within, totals_filled}
 use Rattle.length.proofs.totals.least_totals.Goals as goal
 

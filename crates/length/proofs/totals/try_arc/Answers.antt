@@ -1,5 +1,5 @@
 -- Where there is no way on, or the way over the arc is not shorter, the table stays.
-use Rattle.std.proofs.Common.{◌≡◌, ◌<◌, false, length, get_or, Some, None, sym, refl, ap, ◌∙◌, arith}
+use Rattle.std.proofs.Common.{◌≡◌, false, get_or, Some, None, sym, refl, ap, ◌∙◌, arith}
 use Rattle.std.proofs.lemmas.List.{get_or_read}
 use Rattle.length.specs.Rounds.{shortens}
 use Rattle.length.proofs.Tries.{tried_none, tried_longer}

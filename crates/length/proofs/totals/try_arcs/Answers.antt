@@ -1,10 +1,10 @@
 -- Each turn tries one arc more, and after the last all are tried.
-use Rattle.std.proofs.Common.{◌≡◌, ◌<◌, true, false, length, get_or, take, sym, refl, ap, ◌∙◌, subst, arith, take_all}
+use Rattle.std.proofs.Common.{length, get_or, sym, ap, ◌∙◌, take_all}
 use borrow.Author.Tests.{clash}
 use Rattle.std.proofs.ByRecursion.{All-get_or}
 use Rattle.std.proofs.lemmas.List.Sums.{fold_more}
 use Rattle.network.specs.Net.{no_arc}
-use Rattle.length.specs.Rounds.{EndsWithin, tried, all_tried}
+use Rattle.length.specs.Rounds.{EndsWithin, tried}
 use Rattle.length.proofs.totals.try_arcs.Goals as goal
 use Rattle.length.proofs.totals.try_arcs.Goals.{then-try_arc, else-try_arc}
 

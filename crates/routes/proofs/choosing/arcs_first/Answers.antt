@@ -1,5 +1,5 @@
 -- The first place that differs decides, and else the number of arcs.
-use Rattle.std.proofs.Common.{◌≡◌, sym, ◌∙◌, arith}
+use Rattle.std.proofs.Common.{sym, ◌∙◌, arith}
 use Rattle.routes.proofs.Firsts.{less_at, more_at, same_at, shared_end}
 use Rattle.routes.proofs.choosing.arcs_first.Goals as goal
 

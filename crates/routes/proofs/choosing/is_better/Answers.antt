@@ -1,5 +1,5 @@
 -- The choice with one line more.
-use Rattle.std.proofs.Common.{◌≡◌, ℕ, ◌+◌, Some, None, Option, sym, subst, arith}
+use Rattle.std.proofs.Common.{ℕ, ◌+◌, Option, sym, subst, arith}
 use Rattle.routes.specs.Choice.{Chosen, better}
 use Rattle.routes.proofs.Chosen.{begins, stays, takes_over}
 use Rattle.routes.proofs.choosing.is_better.Goals as goal

@@ -1,14 +1,14 @@
 -- A check before the work fails, or the work on the filled tables gives the answer.
 use Rattle.std.proofs.Common.{◌≡◌, length, is_some, None, sym, refl, ap, ◌∙◌, subst}
 use borrow.Author.Tests.{clash}
-use Rattle.network.specs.Checks.{first_failed, outcome}
+use Rattle.network.specs.Checks.{first_failed}
 use Rattle.network.specs.Copies.{copy_meaning}
 use Rattle.network.specs.Net.{Net}
 use Rattle.length.specs.declared.standard.StandardKind.TheVariants.{Delay, Jitter, Charge, Hops}
 use Rattle.length.specs.Standard.{standard}
 use Rattle.routes.specs.declared.checking.Sizes.{Sizes}
 use Rattle.routes.specs.Enquire.{early_checks, enquiry_answer, enquiry_told}
-use Rattle.routes.specs.Lent.{brought, held_in}
+use Rattle.routes.specs.Lent.{brought}
 use Rattle.routes.proofs.Enquiries.{answered_work, early_passed, filled_holds, refused_early, same_checks}
 use Rattle.routes.proofs.enquiring.enquire.Goals as goal
 

@@ -1,7 +1,7 @@
 -- The work came to an end with too few lines, or its routes are those that are asked for.
-use Rattle.std.proofs.Common.{◌≡◌, ℕ, ◌<◌, ◌≤◌, cond, List, ◌++◌, map, length, drop, Ok, Err, Result, sym, refl, ap, ◌∙◌, arith}
+use Rattle.std.proofs.Common.{◌≡◌, cond, ◌++◌, map, length, drop, Ok, Err, sym, ap, ◌∙◌, arith}
 use Rattle.std.proofs.lemmas.Bool.{lt-ltb, le-ltb}
-use Rattle.network.specs.Checks.{Told, refusal}
+use Rattle.network.specs.Checks.{refusal}
 use Rattle.network.specs.Copies.{copy_meaning}
 use Rattle.network.specs.Fits.{fits_formed}
 use Rattle.routes.specs.declared.enquiry.Found.{Found}

@@ -1,10 +1,10 @@
 -- The next line is there where the arc may follow and the limits allow it.
-use Rattle.std.proofs.Common.{◌≡◌, Some, None, Option, sym, refl, ap, ◌∙◌}
+use Rattle.std.proofs.Common.{Some, None, Option, sym, ap, ◌∙◌}
 use Rattle.network.specs.Copies.{copy_meaning}
 use Rattle.network.specs.declared.arc.Arc.{Arc}
 use Rattle.network.specs.Fits.{fits_formed}
 use Rattle.routes.specs.declared.line.Line.{Line}
-use Rattle.routes.specs.Lines.{following_arc, stretched_within}
+use Rattle.routes.specs.Lines.{stretched_within}
 use Rattle.routes.proofs.OnLines.{ends_inside, followed, on_count, on_long, on_next, on_there}
 use Rattle.routes.proofs.extending.extended.Goals as goal
 

@@ -1,5 +1,5 @@
 -- Each test of the code is one of those that say whether an arc may follow.
-use Rattle.std.proofs.Common.{◌≡◌, sym, ap, ◌∙◌, subst, ⊎_elim, arith}
+use Rattle.std.proofs.Common.{◌∙◌, arith}
 use Rattle.network.specs.Copies.{copy_meaning}
 use Rattle.network.specs.Net.{no_arc}
 use Rattle.network.specs.ListsLemmas.{nth_some, nth_none}

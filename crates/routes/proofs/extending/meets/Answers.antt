@@ -1,5 +1,5 @@
 -- The arcs passed do not meet the site; one that does is found at its place.
-use Rattle.std.proofs.Common.{◌≡◌, ◌≤◌, length, get_or, sym, refl, ap, ◌∙◌, subst, arith}
+use Rattle.std.proofs.Common.{◌≡◌, get_or, sym, ap, ◌∙◌, arith}
 use Rattle.network.specs.Copies.{copy_meaning}
 use Rattle.network.specs.Net.{arc_at, no_arc}
 use Rattle.network.specs.ListsLemmas.{nth_some, nth_none}

@@ -1,8 +1,8 @@
 -- Each turn writes one row more, and after the last all are written.
-use Rattle.std.proofs.Common.{◌≡◌, ◌<◌, length, get_or, sym, refl, ap, ◌∙◌, arith, take_all}
+use Rattle.std.proofs.Common.{◌≡◌, ◌<◌, length, get_or, sym, refl, ◌∙◌, arith, take_all}
 use Rattle.std.proofs.lemmas.List.FromFn.{get_or-map-range_with_len, length-map-range_with_len}
-use Rattle.network.specs.ListsLemmas.{enter_at, some_same}
-use Rattle.routes.specs.Rows.{no_row, row_at, row_on, rows_at}
+use Rattle.network.specs.ListsLemmas.{enter_at}
+use Rattle.routes.specs.Rows.{no_row, row_at, rows_at}
 use Rattle.routes.proofs.Listed.{inside_of, row_there}
 use Rattle.routes.proofs.listing.list_rows.Goals as goal
 

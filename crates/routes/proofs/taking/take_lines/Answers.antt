@@ -1,5 +1,5 @@
 -- Each step of the code is a step of the work.
-use Rattle.std.proofs.Common.{◌≡◌, ◌≤◌, length, Some, None, Option, sym, refl, ap, ◌∙◌, subst, arith}
+use Rattle.std.proofs.Common.{◌≡◌, ◌≤◌, length, Option, sym, refl, ap, ◌∙◌, subst, arith}
 use Rattle.std.proofs.lemmas.Bool.{eq-eqb, ne_eqb}
 use Rattle.network.specs.Copies.{copy_meaning}
 use Rattle.network.specs.Net.{arc_count}
@@ -8,7 +8,7 @@ use Rattle.routes.specs.declared.taking.Work.{Work}
 use Rattle.routes.specs.Work.{WorkDone, notebook_after, used_after}
 use Rattle.routes.proofs.Progress.{all_sound}
 use Rattle.routes.proofs.Starts.{start_is}
-use Rattle.routes.proofs.Works.{all_wanted, found_few, goes_on, no_start, none_left_over, step_arrived, step_more, step_on, step_room, too_few, widened, widens, wider, work_starts}
+use Rattle.routes.proofs.Works.{all_wanted, goes_on, no_start, none_left_over, step_arrived, step_more, step_room, too_few, widened, widens, wider, work_starts}
 use Rattle.routes.proofs.taking.take_lines.Goals as goal
 
 pub returns-in_err-used : goal.returns-in_err-used

@@ -3,7 +3,7 @@ use Rattle.std.proofs.Common.{◌≡◌, ℕ, zero, suc, ◌+◌, ◌-◌, ◌<�
 use mathlib.Core.Path.{fun_ext}
 use lib.ListN.{length-map}
 use borrow.Author.Tests.{clash}
-use Rattle.std.specs.List.{range_with_len, AllByRecursion as All}
+use Rattle.std.specs.List.{range_with_len, AllByRecursion}
 use Rattle.std.proofs.lemmas.List.{take_at, drop_at}
 use Rattle.std.proofs.lemmas.Bool.{ltb-true, ltb-false, lt-ltb, or_parts}
 use Rattle.std.proofs.ByRecursion.{All-get_or, All-map}
@@ -26,11 +26,11 @@ use Rattle.desk.proofs.Capacity.{free_is}
 use Rattle.desk.proofs.Answers.{run_split, answer_is}
 
 -- if no check is told, none failed
-pub all_passed : (cs : List Check) → first_failed cs ≡ None → All (λ c. c.0 ≡ false) cs
+pub all_passed : (cs : List Check) → first_failed cs ≡ None → AllByRecursion (λ c. c.0 ≡ false) cs
 all_passed [] e = tt
 all_passed (c ∷ cs) e = go c.0 refl e (all_passed cs)
   where
-    go : (b : Bool) → c.0 ≡ b → cond b (Some c.1) (first_failed cs) ≡ None → (first_failed cs ≡ None → All (λ c. c.0 ≡ false) cs) → All (λ c. c.0 ≡ false) (c ∷ cs)
+    go : (b : Bool) → c.0 ≡ b → cond b (Some c.1) (first_failed cs) ≡ None → (first_failed cs ≡ None → AllByRecursion (λ c. c.0 ≡ false) cs) → AllByRecursion (λ c. c.0 ≡ false) (c ∷ cs)
     go true q e ih = absurd (let z : ◌≡◌ {A = ℕ} 0 1 = cc in omega arith)
     go false q e ih = (q, ih e)
 

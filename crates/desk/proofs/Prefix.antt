@@ -1,13 +1,13 @@
 -- Of two first parts of the same ordered items the shorter begins the longer.
 use Rattle.std.proofs.Common.{◌≡◌, ◌≤◌, Bool, ◌⊎◌, List, [], ◌∷◌, length, take, sym, refl, ap, ◌∙◌, subst, inl, inr, le_of_suc-le-suc, not-suc-le-zero}
-use Rattle.std.specs.List.{AllByRecursion as All}
+use Rattle.std.specs.List.{AllByRecursion}
 use Rattle.network.specs.Lists.{In}
 use Rattle.routes.proofs.Sorting.{Ahead, Rising, in_all}
 
 module _ {A : Type 0} (leq : A → A → Bool) where
   -- each item of F is there, or comes after all that are
   abbrev pub First : (A → Type 0) → List A → Type 0
-  First F xs = (x : A) → F x → In x xs ⊎ All (λ s. Ahead leq s x) xs
+  First F xs = (x : A) → F x → In x xs ⊎ AllByRecursion (λ s. Ahead leq s x) xs
 
   abbrev pub Apart : (A → Type 0) → Type 0
   Apart F = (a b : A) → F a → F b → Ahead leq a b → Ahead leq b a → ⊥
@@ -18,7 +18,7 @@ module _ {A : Type 0} (leq : A → A → Bool) where
   head_or_behind : (F : A → Type 0) (b : A) (bs : List A) (x : A) → F x → Rising leq (b ∷ bs) → First F (b ∷ bs) → (x ≡ b) ⊎ Ahead leq b x
   head_or_behind F b bs x f up first = go (first x f)
     where
-      go : In x (b ∷ bs) ⊎ All (λ s. Ahead leq s x) (b ∷ bs) → (x ≡ b) ⊎ Ahead leq b x
+      go : In x (b ∷ bs) ⊎ AllByRecursion (λ s. Ahead leq s x) (b ∷ bs) → (x ≡ b) ⊎ Ahead leq b x
       go (inl (inl e)) = inl e
       go (inl (inr i)) = inr (in_all (Ahead leq b) bs x up.0 i)
       go (inr all) = inr all.0
@@ -34,7 +34,7 @@ module _ {A : Type 0} (leq : A → A → Bool) where
   tail_first : (F : A → Type 0) (s : A) (b : A) (bs : List A) → s ≡ b → First F (b ∷ bs) → First (Without F s) bs
   tail_first F s b bs e first x f = go (first x f.0)
     where
-      go : In x (b ∷ bs) ⊎ All (λ s. Ahead leq s x) (b ∷ bs) → In x bs ⊎ All (λ s. Ahead leq s x) bs
+      go : In x (b ∷ bs) ⊎ AllByRecursion (λ s. Ahead leq s x) (b ∷ bs) → In x bs ⊎ AllByRecursion (λ s. Ahead leq s x) bs
       go (inl (inl q)) = absurd (f.1 (q ∙ sym e))
       go (inl (inr i)) = inl i
       go (inr all) = inr all.1

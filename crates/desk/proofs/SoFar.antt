@@ -1,7 +1,7 @@
 -- What stands after each turn that a client is served, and the law over all of them.
 use Rattle.std.proofs.Common.{◌≡◌, ℕ, ◌+◌, ◌<◌, ◌⊎◌, ◌↔◌, List, [], ◌∷◌, ◌++◌, map, length, Some, None, Option, sym, refl, ap, ◌∙◌, subst, arith}
 use mathlib.Core.List.{map-append}
-use Rattle.std.specs.List.{AllByRecursion as All}
+use Rattle.std.specs.List.{AllByRecursion}
 use Rattle.std.proofs.ByRecursion.{All-append}
 use Rattle.std.proofs.lemmas.List.{length-append}
 use Rattle.network.specs.declared.arc.Arc.{Arc}
@@ -44,7 +44,7 @@ module _ {N K L C : Type 0} (model : K → Model L) (meaning : N → Net)
     pub went : Went asks hears first turns client
     pub counted : length turns ≡ count
     pub ran : trace_in turns ≡ run_from model (meaning network) opened (made turns)
-    pub returned : All Returned turns
+    pub returned : AllByRecursion Returned turns
     pub below : network_below ledger ≡ network
     pub tally : ledger_tally ledger ≡ tally_of (meaning network) (made turns)
 

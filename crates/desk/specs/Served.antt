@@ -1,6 +1,6 @@
 -- What a client that was served can rely on: the turns that it went through, and the law over all of them.
 use Rattle.std.specs.Prelude.{◌≡◌, ℕ, ◌⊎◌, List, [], ◌∷◌, length, Some, None, Option}
-use Rattle.std.specs.List.{AllByRecursion as All}
+use Rattle.std.specs.List.{AllByRecursion}
 use Rattle.network.specs.Net.{Net, arc_at}
 use Rattle.length.specs.Model.{Model}
 use Rattle.ledger.specs.declared.ledger.Ledger.{Ledger}
@@ -44,7 +44,7 @@ pub record Served {N K L C : Type 0} (model : K → Model L) (meaning : N → Ne
   -- the law over all of them, with the free capacity that the ledger shows and the tickets in its held rows
   pub law : Faithful model (meaning network) (trace_in turns) (λ i. (arc_at (ledger_meaning meaning ledger) i).capacity) (tickets_held ledger)
   -- what came back with each reply
-  pub returned : All Returned turns
+  pub returned : AllByRecursion Returned turns
   -- the ledger lies over that network, and stands as the calls left it
   pub below : network_below ledger ≡ network
   pub tally : ledger_tally ledger ≡ tally_of (meaning network) (calls (trace_in turns))

@@ -1,7 +1,7 @@
 -- Least totals that pass every check, and the arcs that the table has room for.
 use Rattle.std.proofs.Common.{◌≡◌, ℕ, ◌-◌, ◌<◌, ◌≤◌, List, ◌++◌, length, take, Some, None, Ok, Option, sym, ap, ◌∙◌, arith}
 use borrow.Author.Tests.{lt-leb}
-use Rattle.std.specs.List.{AllByRecursion as All}
+use Rattle.std.specs.List.{AllByRecursion}
 use Rattle.std.proofs.ByRecursion.{All-weaker}
 use Rattle.std.proofs.lemmas.List.{take_at}
 use Rattle.std.proofs.lemmas.Bool.{le-ltb, ne_eqb}
@@ -25,7 +25,7 @@ listed_arcs net listed rest count e is = rw is (take_at net.arcs rest (count - 0
 ends : (sites places : ℕ) → sites ≤ places → (arc : Arc) → ArcFits sites arc → EndsWithin places arc
 ends sites places h arc fits = (omega (arith, fits.from_site), omega (arith, fits.to_site))
 
-pub arcs_within : (net : Net) (places : ℕ) → WellFormed net → net.sites ≤ places → All (EndsWithin places) net.arcs
+pub arcs_within : (net : Net) (places : ℕ) → WellFormed net → net.sites ≤ places → AllByRecursion (EndsWithin places) net.arcs
 arcs_within net places wf h = All-weaker (ArcFits net.sites) (EndsWithin places) (ends net.sites places h) net.arcs wf.arcs_fit
 
 -- the table as a call that passes every check leaves it

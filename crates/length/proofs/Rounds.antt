@@ -1,6 +1,6 @@
 -- Rounds over all arcs fill a table with the least totals.
 use Rattle.std.proofs.Common.{◌≡◌, ℕ, zero, suc, ◌+◌, ◌-◌, ◌<◌, ◌≤◌, Bool, true, false, cond, T, eqb, ltb, leb, List, [], ◌∷◌, ◌++◌, map, length, get_or, take, drop, set, replicate, Some, None, fold, Option, sym, refl, ap, ◌∙◌, subst, inl, inr, ⊎_elim, le_of_suc-le-suc, not-suc-le-zero, add-zero, add-suc, suc-add, zero-add, arith}
-use Rattle.std.specs.List.{range_with_len, AllByRecursion as All}
+use Rattle.std.specs.List.{range_with_len, AllByRecursion}
 use Rattle.std.specs.Option.{option_map}
 use Rattle.std.proofs.lemmas.List.FromFn.{fill_by_all}
 use Rattle.std.proofs.ByRecursion.{All-get_or}
@@ -18,7 +18,7 @@ use Rattle.length.proofs.Members.{in_counting}
 use Rattle.length.proofs.Least.{ValidO, AtMost, no_longer_refl, shorter_left, shorter_right, mapped_valid, mapped_at_most, Way, first_test, rest_way, way_rest, arc_there, walk_ok, Reached, reached_valid, settled, least_of_all, least_same}
 
 -- the numbers from a on, k of them, are below any number that is at least a + k
-counting_below : (n a k : ℕ) → a + k ≤ n → All (λ i. i < n) (range_with_len a k)
+counting_below : (n a k : ℕ) → a + k ≤ n → AllByRecursion (λ i. i < n) (range_with_len a k)
 counting_below n a zero h = tt
 counting_below n a (suc k) h = (omega arith, counting_below n (a + 1) k (omega arith))
 
@@ -179,13 +179,13 @@ module _ {L : Type 0} (m : Model L) (law : Lawful m) (net : Net) (wf : WellForme
   same_kept : (t : List (Option L)) → Good t → Kept t t
   same_kept t good = record { good = good; long = refl; rest = refl; keeps = λ s z vz h. h }
 
-  tries_kept : (is : List ℕ) (t : List (Option L)) → All (λ i. i < arc_count net) is → Good t → Kept t (tries is t)
+  tries_kept : (is : List ℕ) (t : List (Option L)) → AllByRecursion (λ i. i < arc_count net) is → Good t → Kept t (tries is t)
   unfolding tries
   tries_kept [] t all good = same_kept t good
   tries_kept (i ∷ is) t all good =
       let one = try_kept i t all.0 good in kept_more t (try i t) (tries is (try i t)) one (tries_kept is (try i t) all.1 one.good)
 
-  tries_enter : (is : List ℕ) (t : List (Option L)) → All (λ i. i < arc_count net) is → Good t → (i : ℕ) → In i is → leb width (arc_at net i).capacity ≡ true
+  tries_enter : (is : List ℕ) (t : List (Option L)) → AllByRecursion (λ i. i < arc_count net) is → Good t → (i : ℕ) → In i is → leb width (arc_at net i).capacity ≡ true
       → (z : L) → T (m.valid z) → AtMost m (entry t (arc_at net i).to) z → AtMost m (entry (tries is t) (arc_at net i).from) (m.join (arc_length m net i) z)
   unfolding tries
   tries_enter [] t all good i there wide z vz below = absurd there
@@ -200,7 +200,7 @@ module _ {L : Type 0} (m : Model L) (law : Lawful m) (net : Net) (wf : WellForme
   every : List ℕ
   every = range_with_len 0 (arc_count net)
 
-  every_there : All (λ i. i < arc_count net) every
+  every_there : AllByRecursion (λ i. i < arc_count net) every
   unfolding every
   every_there = counting_below (arc_count net) 0 (arc_count net) (omega arith)
 

@@ -1,6 +1,6 @@
 // Least totals over all walks to a destination, in any kind of length.
 ghost use Rattle.std.specs.Prelude.{◌≡◌, ◌<◌, ◌≤◌, true, false, ◌++◌, length, drop, replicate, is_ok, None};
-ghost use Rattle.std.specs.List.{AllByRecursion as All};
+ghost use Rattle.std.specs.List.{AllByRecursion};
 ghost use Rattle.network.specs.Checks.{outcome};
 ghost use Rattle.length.specs.Least.{HoldsLeast, least_totals_answer, least_totals_table, least_totals_told};
 ghost use Rattle.length.specs.Rounds.{EndsWithin, all_tried, first_table, rounds, shortens, tried};
@@ -54,7 +54,7 @@ fn try_arc<K: Kind>(kind: &K, width: u32, arc: Arc, table: &mut [Option<K::Lengt
 
 // Tries every arc in turn. Whether the table changed.
 fn try_arcs<K: Kind>(kind: &K, width: u32, arcs: &[Arc], table: &mut [Option<K::Length>]) -> bool
-    requires { All (EndsWithin (length table.old)) arcs.now }
+    requires { AllByRecursion (EndsWithin (length table.old)) arcs.now }
     ensures table { table.new ≡ all_tried (K.Kind.model kind.now) width arcs.now table.old }
     ensures same { result ≡ false → table.new ≡ table.old }
 {
@@ -87,7 +87,7 @@ fn fill_table<K: Kind>(
     width: u32,
     table: &mut [Option<K::Length>],
 )
-    requires { (sites ≤ length table.old) × ((destination < sites) × (All (EndsWithin (length table.old)) arcs.now)) }
+    requires { (sites ≤ length table.old) × ((destination < sites) × (AllByRecursion (EndsWithin (length table.old)) arcs.now)) }
     ensures { table.new ≡ rounds (K.Kind.model kind.now) width arcs.now sites (first_table (K.Kind.model kind.now) sites destination table.old) }
 {
     clear(table, sites);

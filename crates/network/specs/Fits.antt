@@ -1,7 +1,7 @@
 -- The limits as tests and as facts.
 use Rattle.std.specs.Prelude.{◌≡◌, ℕ, true, not, List, [], ◌∷◌, refl}
 use Rattle.std.proofs.Common.{ap}
-use Rattle.std.specs.List.{AllByRecursion as All}
+use Rattle.std.specs.List.{AllByRecursion}
 use Rattle.std.proofs.lemmas.Bool.{and_parts, and_from, eqb-false, leb-true, ltb-true, not-true, lt-ltb, le-leb, ne_eqb}
 use Rattle.network.specs.declared.arc.Arc.{Arc}
 use Rattle.network.specs.Limits.{arc_fits, net_fits}
@@ -38,11 +38,11 @@ fits_one sites arc fits =
     ))
     ))
 
-pub all_fit : (sites : ℕ) (arcs : List Arc) → all_of (arc_fits sites) arcs ≡ true → All (ArcFits sites) arcs
+pub all_fit : (sites : ℕ) (arcs : List Arc) → all_of (arc_fits sites) arcs ≡ true → AllByRecursion (ArcFits sites) arcs
 all_fit sites [] e = tt
 all_fit sites (a ∷ more) e = let p = and_parts _ _ e in (one_fits sites a p.0, all_fit sites more p.1)
 
-fit_all : (sites : ℕ) (arcs : List Arc) → All (ArcFits sites) arcs → all_of (arc_fits sites) arcs ≡ true
+fit_all : (sites : ℕ) (arcs : List Arc) → AllByRecursion (ArcFits sites) arcs → all_of (arc_fits sites) arcs ≡ true
 fit_all sites [] h = refl
 fit_all sites (a ∷ more) h = and_from _ _ (fits_one sites a h.0) (fit_all sites more h.1)
 

@@ -1,6 +1,6 @@
 -- What a network means: how many sites it has, and its arcs in the order of their numbers.
 use Rattle.std.specs.Prelude.{◌≡◌, ℕ, ◌<◌, ◌≤◌, List, length, Some, None, Option, slice_index_or, slice_set}
-use Rattle.std.specs.List.{AllByRecursion as All, slice_get}
+use Rattle.std.specs.List.{AllByRecursion, slice_get}
 use Rattle.network.specs.declared.arc.Arc.{Arc}
 
 -- the whole meaning of a network: sites and arcs are numbered from 0
@@ -50,4 +50,4 @@ pub record WellFormed (net : Net) : Type 0 where
   pub some_sites : 2 ≤ net.sites
   pub few_sites : net.sites ≤ 64
   pub few_arcs : arc_count net ≤ 256
-  pub arcs_fit : All (ArcFits net.sites) net.arcs
+  pub arcs_fit : AllByRecursion (ArcFits net.sites) net.arcs

@@ -4,7 +4,7 @@ use Rattle.std.proofs.Common.{⊎_elim, sym, mod-eq_of_lt}
 use Rattle.std.proofs.Math.Path.{refl}
 use Rattle.std.proofs.Math.Nat.{mod-lt, mod_self, add-zero}
 use native.Mathlib.Omega.{arith}
-use Rattle.std.specs.List.{range_with_len, flat_map, AllByRecursion as All, slice_get}
+use Rattle.std.specs.List.{range_with_len, flat_map, AllByRecursion, slice_get}
 use Rattle.std.proofs.lemmas.Option.{slice_get_past}
 use Rattle.std.proofs.lemmas.Bool.{cases_lt}
 use Rattle.network.specs.declared.arc.Arc.{Arc}
@@ -62,7 +62,7 @@ module _ (n : ℕ) (f : Figures) where
         capacity_fits = limits.4;
       }
 
-  fit_from : 3 ≤ n → FiguresFit f → (a k : ℕ) → a + k ≤ n → All (ArcFits n) (arcs_from a k)
+  fit_from : 3 ≤ n → FiguresFit f → (a k : ℕ) → a + k ≤ n → AllByRecursion (ArcFits n) (arcs_from a k)
   unfolding arcs_from
   fit_from few limits a zero h = tt
   fit_from few limits a (suc k) h =
@@ -77,7 +77,7 @@ module _ (n : ℕ) (f : Figures) where
   unfolding arcs_from
   ring_length = length_from 0 n
 
-  pub ring_fits : 3 ≤ n → FiguresFit f → All (ArcFits n) (flat_map (both_ways n f) (range_with_len 0 n))
+  pub ring_fits : 3 ≤ n → FiguresFit f → AllByRecursion (ArcFits n) (flat_map (both_ways n f) (range_with_len 0 n))
   unfolding arcs_from
   ring_fits few limits = fit_from few limits 0 n (omega arith)
 

@@ -1,6 +1,6 @@
 -- A sorted list: it has the same items, each before all that follow.
 use Rattle.std.proofs.Common.{◌≡◌, ℕ, zero, suc, ◌<◌, Bool, true, false, cond, not, T, ◌⊎◌, List, [], ◌∷◌, length, take, filter, sym, refl, ap, subst, inl, inr, ⊎_elim, arith}
-use Rattle.std.specs.List.{AllByRecursion as All}
+use Rattle.std.specs.List.{AllByRecursion}
 use Rattle.network.specs.Lists.{In, insert, sort}
 use Rattle.length.proofs.Members.{from_kept}
 
@@ -9,11 +9,11 @@ abbrev pub Unique : {A : Type 0} → List A → Type 0
 Unique [] = Unit {0}
 Unique (x ∷ xs) = (In x xs → ⊥) × Unique xs
 
-pub all_in : {A : Type 0} (P : A → Type 0) (xs : List A) → ((x : A) → In x xs → P x) → All P xs
+pub all_in : {A : Type 0} (P : A → Type 0) (xs : List A) → ((x : A) → In x xs → P x) → AllByRecursion P xs
 all_in P [] h = tt
 all_in P (x ∷ xs) h = (h x (inl refl), all_in P xs (λ y i. h y (inr i)))
 
-pub in_all : {A : Type 0} (P : A → Type 0) (xs : List A) (x : A) → All P xs → In x xs → P x
+pub in_all : {A : Type 0} (P : A → Type 0) (xs : List A) (x : A) → AllByRecursion P xs → In x xs → P x
 in_all P [] x h i = absurd i
 in_all P (y ∷ ys) x h (inl e) = subst P (sym e) h.0
 in_all P (y ∷ ys) x h (inr i) = in_all P ys x h.1 i
@@ -30,7 +30,7 @@ module _ {A : Type 0} (first : A → A → Bool) where
 
   abbrev pub Rising : List A → Type 0
   Rising [] = Unit {0}
-  Rising (r ∷ rs) = All (Ahead r) rs × Rising rs
+  Rising (r ∷ rs) = AllByRecursion (Ahead r) rs × Rising rs
 
   -- the same items
   pub from_insert : (x : A) (xs : List A) (y : A) → In y (insert first x xs) → (y ≡ x) ⊎ In y xs
@@ -107,7 +107,7 @@ module _ {A : Type 0} (first : A → A → Bool) where
   take_rising (suc k) (x ∷ xs) r = (all_in (Ahead x) (take k xs) (λ y i. in_all (Ahead x) xs y r.0 (from_take k xs y i)), take_rising k xs r.1)
 
   -- an item is among the first k, or all of those are ahead of it
-  pub first_or_after : (k : ℕ) (xs : List A) (r : A) → Rising xs → In r xs → In r (take k xs) ⊎ All (λ s. Ahead s r) (take k xs)
+  pub first_or_after : (k : ℕ) (xs : List A) (r : A) → Rising xs → In r xs → In r (take k xs) ⊎ AllByRecursion (λ s. Ahead s r) (take k xs)
   first_or_after zero xs r up i = inr tt
   first_or_after (suc k) [] r up i = absurd i
   first_or_after (suc k) (x ∷ xs) r up (inl e) = inl (inl e)

@@ -1,6 +1,6 @@
 -- What a list of routes must be, told without saying how it is found.
 use Rattle.std.specs.Prelude.{◌≡◌, ℕ, ◌<◌, ◌≤◌, true, not, T, ◌⊎◌, List, [], ◌∷◌, ◌++◌, length, take, Some, filter, ◌≢◌, slice_index_or}
-use Rattle.std.specs.List.{AllByRecursion as All}
+use Rattle.std.specs.List.{AllByRecursion}
 use Rattle.network.specs.Lists.{In, distinct}
 use Rattle.network.specs.Net.{Net, WellFormed}
 use Rattle.length.specs.Model.{Model, Lawful}
@@ -16,7 +16,7 @@ pub record Feasible {K : Type 0} (net : Net) (e : Enquiry K) (r : List ℕ) : Ty
   pub some_arcs : 0 < length r
   pub leads : follow net e.width e.source r ≡ Some e.destination
   pub no_site_twice : T (distinct (sites_along net e.source r))
-  pub within_limits : All (λ l. total net l.0 r ≤ l.1) (limits_of e.limits)
+  pub within_limits : AllByRecursion (λ l. total net l.0 r ≤ l.1) (limits_of e.limits)
 
 module _ {K L : Type 0} (model : K → Model L) (net : Net) (e : Enquiry K) where
   -- r comes before s
@@ -26,13 +26,13 @@ module _ {K L : Type 0} (model : K → Model L) (net : Net) (e : Enquiry K) wher
   -- each comes before all that follow it; so none is there twice
   abbrev pub InOrder : List (List ℕ) → Type 0
   InOrder [] = Unit {0}
-  InOrder (r ∷ rs) = All (Before r) rs × InOrder rs
+  InOrder (r ∷ rs) = AllByRecursion (Before r) rs × InOrder rs
 
   -- the list that an enquiry asks for
   pub record Lists (routes : List (List ℕ)) : Type 0 where
-    pub each_feasible : All (Feasible net e) routes
+    pub each_feasible : AllByRecursion (Feasible net e) routes
     pub in_order : InOrder routes
-    pub others_after : (r : List ℕ) → Feasible net e r → In r routes ⊎ All (λ s. Before s r) routes
+    pub others_after : (r : List ℕ) → Feasible net e r → In r routes ⊎ AllByRecursion (λ s. Before s r) routes
     pub enough : (length routes ≡ e.wanted) ⊎ ((length routes < e.wanted) × ((r : List ℕ) → Feasible net e r → In r routes))
 
   -- Statement: the parent of an admissible partial route is one too, and comes before it. So work that always takes

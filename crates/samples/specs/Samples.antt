@@ -1,6 +1,6 @@
 -- The sample cases, as one table, and the statement that each of them comes out so.
 use Rattle.std.specs.Prelude.{◌≡◌, ℕ, List, [], ◌∷◌, map, take, drop, Ok, Err}
-use Rattle.std.specs.List.{AllByRecursion as All}
+use Rattle.std.specs.List.{AllByRecursion}
 use Rattle.network.specs.Checks.{Told, refusal}
 use Rattle.network.specs.Net.{Net}
 use Rattle.sheet.specs.Layout.{sheet_of}
@@ -93,4 +93,4 @@ sample_table =
 
 -- every case comes out as the table has it
 abbrev pub SamplesHold : Type 0
-SamplesHold = All (λ (s : Question × Outcome). comes_out s.0 ≡ s.1) sample_table
+SamplesHold = AllByRecursion (λ (s : Question × Outcome). comes_out s.0 ≡ s.1) sample_table

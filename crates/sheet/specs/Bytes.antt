@@ -2,7 +2,7 @@
 use Rattle.std.specs.Prelude.{◌≡◌, ℕ, zero, suc, ◌+◌, ◌-◌, ◌*◌, ◌/◌, ◌%◌, ◌^◌, ◌<◌, ◌≤◌, List, [], ◌∷◌, ◌++◌, length, take, drop, slice_index, refl}
 use Rattle.std.proofs.Common.{⊎_elim, sym, ap, ◌∙◌, mul-suc, arith, length-append, length-drop, take-append-drop, take_at, drop_at, length-take-le}
 use Rattle.std.proofs.Math.Seq.{take-append-add, drop-append-add, take-nil, drop-nil}
-use Rattle.std.specs.List.{flat_map as joined, AllByRecursion as All}
+use Rattle.std.specs.List.{flat_map, AllByRecursion}
 use Rattle.std.proofs.ByRecursion.{All-append, All-take, All-drop}
 use Rattle.std.proofs.lemmas.List.{get_or_append_left, get_or-append_right, nil_from_length, take-append-le, drop-append-le}
 use Rattle.std.proofs.lemmas.Bool.{cases_lt}
@@ -10,13 +10,13 @@ use Rattle.sheet.specs.Bits.{bits, number, bits_of, bytes_of}
 use Rattle.sheet.specs.Rows.{Row, length_bits, row_bits, get_d_bits, number_bits_of, bits_number}
 
 abbrev pub Bytes : List ℕ → Type 0
-Bytes bytes = All (λ b. b < 256) bytes
+Bytes bytes = AllByRecursion (λ b. b < 256) bytes
 
 -- what is joined of parts of one length
-pub length_joined : {X : Type 0} (f : X → List ℕ) (n : ℕ) → ((x : X) → length (f x) ≡ n) → (xs : List X) → length (joined f xs) ≡ n * length xs
+pub length_joined : {X : Type 0} (f : X → List ℕ) (n : ℕ) → ((x : X) → length (f x) ≡ n) → (xs : List X) → length (flat_map f xs) ≡ n * length xs
 length_joined f n same [] = omega arith
 length_joined f n same (x ∷ xs) =
-    length-append (f x) (joined f xs) ∙ (let e = length_joined f n same xs in let h = same x in omega (arith, mul-suc n (length xs)))
+    length-append (f x) (flat_map f xs) ∙ (let e = length_joined f n same xs in let h = same x in omega (arith, mul-suc n (length xs)))
 
 pub length_bits_of : (bytes : List ℕ) → length (bits_of bytes) ≡ 8 * length bytes
 length_bits_of bytes = length_joined (bits 8) 8 (length_bits 8) bytes

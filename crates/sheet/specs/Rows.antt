@@ -1,13 +1,13 @@
 -- Rows of bits and the numbers that they stand for: each is found again from the other.
 use Rattle.std.specs.Prelude.{◌≡◌, ℕ, zero, suc, ◌+◌, ◌-◌, ◌*◌, ◌/◌, ◌%◌, ◌^◌, ◌<◌, ◌≤◌, List, [], ◌∷◌, ◌++◌, length, take, fold, slice_index, refl}
 use Rattle.std.proofs.Common.{append_assoc, sym, ap, ◌∙◌, mod-lt, mod-eq_of_lt, pow-suc, add-mul, mul_assoc, arith, lit<, length-take, pow_mono}
-use Rattle.std.specs.List.{AllByRecursion as All}
+use Rattle.std.specs.List.{AllByRecursion}
 use Rattle.std.proofs.lemmas.Nat.{mod-pow-add, shr_high, mod_low, mul-add-lt}
 use Rattle.std.proofs.ByRecursion.{All-take}
 use Rattle.sheet.specs.Bits.{bits, number}
 
 abbrev pub Row : List ℕ → Type 0
-Row bs = All (λ b. b < 2) bs
+Row bs = AllByRecursion (λ b. b < 2) bs
 
 pub length_bits : (w x : ℕ) → length (bits w x) ≡ w
 length_bits zero x = refl

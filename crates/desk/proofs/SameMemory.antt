@@ -11,6 +11,7 @@ use Rattle.routes.specs.declared.line.Line.{Line}
 use Rattle.routes.specs.Enquire.{Brought, EnquiryAnswer, Tables, early_checks, enquiry_answer, enquiry_outcome, too_few_lines}
 use Rattle.routes.specs.Lent.{five_tables}
 use Rattle.desk.specs.Calls.{enquired}
+use Rattle.desk.specs.Questions.{an_answer}
 use Rattle.desk.specs.Turns.{bringing, refused_early}
 
 pub same_tables : {L : Type 0} {a b : List (Option L)} {c d e f g h i j : List (Option ℕ)}
@@ -27,10 +28,10 @@ same_answer a p q r = λ k. record { result = p k; tables = q k; list = r k }
 
 -- an enquiry that is refused by a check of a number below 27 fails a check before the work
 module _ {K L : Type 0} (model : K → Model L) (net : Net) (b : Brought K L) where
-  early_outcome : (o : Option Told) (short : Bool) → refused_early (enquired (enquiry_outcome model net b o short)) ≡ true → is_some o ≡ true
+  early_outcome : (o : Option Told) (short : Bool) → refused_early {L = L} (an_answer (enquired (enquiry_outcome model net b o short))) ≡ true → is_some o ≡ true
   early_outcome (Some r) short h = refl
   early_outcome None true h = absurd (clash h)
   early_outcome None false h = absurd (clash h)
 
-  pub failed_early : (a : EnquiryAnswer L) → a ≡ enquiry_answer model net b → refused_early (enquired a) ≡ true → is_some (first_failed (early_checks model net b)) ≡ true
-  failed_early a is h = early_outcome (first_failed (early_checks model net b)) (too_few_lines model net b) (sym (ap (λ a. refused_early (enquired a)) is) ∙ h)
+  pub failed_early : (a : EnquiryAnswer L) → a ≡ enquiry_answer model net b → refused_early (an_answer (enquired a)) ≡ true → is_some (first_failed (early_checks model net b)) ≡ true
+  failed_early a is h = early_outcome (first_failed (early_checks model net b)) (too_few_lines model net b) (sym (ap (λ a. refused_early (an_answer (enquired a))) is) ∙ h)

@@ -1,5 +1,6 @@
--- One turn of a client: a request and its reply, the call and the answer that they stand for, and what else comes back.
-use Rattle.std.specs.Prelude.{◌≡◌, ℕ, Bool, true, false, List, [], map, length, Ok, Err, vec_items, Result, nat_lt}
+-- One turn of a client: a request and its reply, what they ask and tell, and what else comes back.
+use Rattle.std.specs.Prelude.{◌≡◌, ℕ, Bool, true, false, List, [], ◌∷◌, length, Ok, Err, vec_items, Result, nat_lt}
+use Rattle.std.specs.List.{flat_map}
 use Rattle.network.specs.Checks.{outcome}
 use Rattle.length.specs.Walks.{row_told}
 use Rattle.routes.specs.declared.enquiry.Enquiry.{Enquiry}
@@ -13,7 +14,8 @@ use Rattle.ledger.specs.Told.{hold_told, end_told, close_told, reopen_told}
 use Rattle.desk.specs.declared.requests.Memory.{Memory}
 use Rattle.desk.specs.declared.requests.Request.{Request}
 use Rattle.desk.specs.declared.requests.Reply.{Reply}
-use Rattle.desk.specs.Calls.{Call, enquire, hold, confirm, let_go, end, close, reopen, ask, of_arc, of_length, HandedBack, Answer, enquired, held, confirmed, gone, ended, closed, reopened, shown, an_arc, a_length}
+use Rattle.desk.specs.Calls.{Call, enquire, hold, confirm, let_go, end, close, reopen, HandedBack, Answer, enquired, held, confirmed, gone, ended, closed, reopened}
+use Rattle.desk.specs.Questions.{of_arc, of_length, an_arc, a_length, Asking, a_call, a_question, Telling, an_answer, a_showing}
 use Rattle.desk.specs.Trace.{Step, Trace}
 
 -- what the five tables in a client's memory hold
@@ -39,29 +41,29 @@ taken_in (Ok x) = Ok tt
 taken_in (Err r) = Err (slip_back r)
 
 module _ {N K L : Type 0} where
-  -- the call that a request makes
-  abbrev pub call_in : Request N K L → Call K L
-  call_in (Request.Enquire e m) = enquire (brought_in e m)
-  call_in (Request.Hold width arcs) = hold width (vec_items arcs)
-  call_in (Request.Confirm slip) = confirm (ticket_on slip)
-  call_in (Request.LetGo slip) = let_go (ticket_on slip)
-  call_in (Request.End ticket) = end ticket
-  call_in (Request.Close arc) = close arc
-  call_in (Request.Reopen arc) = reopen arc
-  call_in (Request.Ask arc) = ask (of_arc arc)
-  call_in (Request.Measure kind arcs) = ask (of_length kind (vec_items arcs))
+  -- what a request asks
+  abbrev pub asking_in : Request N K L → Asking K L
+  asking_in (Request.Enquire e m) = a_call (enquire (brought_in e m))
+  asking_in (Request.Hold width arcs) = a_call (hold width (vec_items arcs))
+  asking_in (Request.Confirm slip) = a_call (confirm (ticket_on slip))
+  asking_in (Request.LetGo slip) = a_call (let_go (ticket_on slip))
+  asking_in (Request.End ticket) = a_call (end ticket)
+  asking_in (Request.Close arc) = a_call (close arc)
+  asking_in (Request.Reopen arc) = a_call (reopen arc)
+  asking_in (Request.Ask arc) = a_question (of_arc arc)
+  asking_in (Request.Measure kind arcs) = a_question (of_length kind (vec_items arcs))
 
-  -- the answer that a reply gives
-  abbrev pub answer_in : Reply N K L → Answer L
-  answer_in (Reply.Enquired r m) = enquired (record { result = outcome (λ x. x) enquiry_told r; tables = tables_in m; list = vec_items m.list })
-  answer_in (Reply.Held r arcs) = held (outcome ticket_on hold_told r)
-  answer_in (Reply.Confirmed r) = confirmed (taken_in r)
-  answer_in (Reply.LetGo r) = gone (taken_in r)
-  answer_in (Reply.Ended r) = ended (outcome (λ x. x) end_told r)
-  answer_in (Reply.Closed r) = closed (outcome (λ x. x) close_told r)
-  answer_in (Reply.Reopened r) = reopened (outcome (λ x. x) reopen_told r)
-  answer_in (Reply.Shown arc) = shown (an_arc arc)
-  answer_in (Reply.Measured r arcs) = shown (a_length (outcome (λ x. x) row_told r))
+  -- what a reply tells
+  abbrev pub telling_in : Reply N K L → Telling L
+  telling_in (Reply.Enquired r m) = an_answer (enquired (record { result = outcome (λ x. x) enquiry_told r; tables = tables_in m; list = vec_items m.list }))
+  telling_in (Reply.Held r arcs) = an_answer (held (outcome ticket_on hold_told r))
+  telling_in (Reply.Confirmed r) = an_answer (confirmed (taken_in r))
+  telling_in (Reply.LetGo r) = an_answer (gone (taken_in r))
+  telling_in (Reply.Ended r) = an_answer (ended (outcome (λ x. x) end_told r))
+  telling_in (Reply.Closed r) = an_answer (closed (outcome (λ x. x) close_told r))
+  telling_in (Reply.Reopened r) = an_answer (reopened (outcome (λ x. x) reopen_told r))
+  telling_in (Reply.Shown arc) = a_showing (an_arc arc)
+  telling_in (Reply.Measured r arcs) = a_showing (a_length (outcome (λ x. x) row_told r))
 
   -- the arcs that a request brings, and that come back with a reply
   abbrev pub arcs_brought : Request N K L → List ℕ
@@ -110,15 +112,21 @@ module _ {N K L : Type 0} where
   notebook_back (Reply.Measured r arcs) = []
 
 -- an enquiry was refused before its work began: by a check of a number below 27
-abbrev pub refused_early : {L : Type 0} → Answer L → Bool
-refused_early (enquired a) = elim a.result [ Ok f ↦ false | Err told ↦ nat_lt told.number 27 ]
-refused_early (held r) = false
-refused_early (confirmed r) = false
-refused_early (gone r) = false
-refused_early (ended r) = false
-refused_early (closed r) = false
-refused_early (reopened r) = false
-refused_early (shown o) = false
+abbrev pub refused_early : {L : Type 0} → Telling L → Bool
+refused_early (an_answer (enquired a)) = elim a.result [ Ok f ↦ false | Err told ↦ nat_lt told.number 27 ]
+refused_early (an_answer (held r)) = false
+refused_early (an_answer (confirmed r)) = false
+refused_early (an_answer (gone r)) = false
+refused_early (an_answer (ended r)) = false
+refused_early (an_answer (closed r)) = false
+refused_early (an_answer (reopened r)) = false
+refused_early (a_showing s) = false
+
+-- the step of a trace, if a call was made and answered
+abbrev pub steps : {K L : Type 0} → Asking K L → Telling L → Trace K L
+steps (a_call call) (an_answer answer) = record { call = call; answer = answer } ∷ []
+steps (a_call call) (a_showing s) = []
+steps (a_question q) told = []
 
 -- a request and its reply
 pub record Turn (N K L : Type 0) : Type 0 where
@@ -126,16 +134,13 @@ pub record Turn (N K L : Type 0) : Type 0 where
   pub reply : Reply N K L
 
 module _ {N K L : Type 0} where
-  -- the call made and the answer given
-  abbrev pub step_in : Turn N K L → Step K L
-  step_in turn = record { call = call_in turn.request; answer = answer_in turn.reply }
-
+  -- the calls made in some turns, with their answers
   abbrev pub trace_in : List (Turn N K L) → Trace K L
-  trace_in turns = map step_in turns
+  trace_in turns = flat_map (λ turn. steps (asking_in turn.request) (telling_in turn.reply)) turns
 
   -- what comes back besides: the arcs as they were brought, and the notebook with as many lines, and as it was brought where
   -- the enquiry was refused before its work began
   pub record Returned (turn : Turn N K L) : Type 0 where
     pub arcs : arcs_back turn.reply ≡ arcs_brought turn.request
     pub lines : length (notebook_back turn.reply) ≡ length (notebook_brought turn.request)
-    pub notebook : refused_early (answer_in turn.reply) ≡ true → notebook_back turn.reply ≡ notebook_brought turn.request
+    pub notebook : refused_early (telling_in turn.reply) ≡ true → notebook_back turn.reply ≡ notebook_brought turn.request

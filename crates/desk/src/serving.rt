@@ -6,8 +6,9 @@ ghost use Rattle.routes.specs.Lent.{five_tables};
 ghost use Rattle.ledger.specs.Ledgers.{ledger_meaning, ledger_tally, network_below};
 ghost use Rattle.desk.specs.declared.requests.Request.{Request};
 ghost use Rattle.desk.specs.declared.requests.Reply.{Reply};
-ghost use Rattle.desk.specs.Calls.{enquired, tally_answer, tally_next};
-ghost use Rattle.desk.specs.Turns.{Returned, answer_in, bringing, brought_in, call_in, tables_in};
+ghost use Rattle.desk.specs.Calls.{enquired};
+ghost use Rattle.desk.specs.Questions.{an_answer, telling_by, tally_then};
+ghost use Rattle.desk.specs.Turns.{Returned, asking_in, bringing, brought_in, tables_in, telling_in};
 ghost use Rattle.desk.specs.Served.{Due, Served};
 
 use super::requests::{Memory, Reply, Request};
@@ -50,14 +51,14 @@ fn enquire_with<N: Network, K: Kind>(
     ensures list { list.new ≡ (enquiry_answer K.Kind.model (ledger_meaning N.Network.meaning ledger.now) (bringing enquiry.now (five_tables lengths.old delay.old jitter.old charge.old hops.old) list.old (length notebook.old))).list }
     ensures notebook { is_some (first_failed (early_checks K.Kind.model (ledger_meaning N.Network.meaning ledger.now) (bringing enquiry.now (five_tables lengths.old delay.old jitter.old charge.old hops.old) list.old (length notebook.old)))) ≡ true → notebook.new ≡ notebook.old }
 {
-    let tables = LentTables {
+    let mut tables = LentTables {
         length: lengths,
         delay,
         jitter,
         charge,
         hops,
     };
-    enquire(ledger, enquiry, tables, notebook, list)
+    enquire(ledger, enquiry, &mut tables, notebook, list)
 }
 
 // Enquires in a client's own memory.
@@ -91,7 +92,7 @@ fn answer_enquiry<N: Network, K: Kind + Drop>(
     enquiry: Enquiry<K>,
     mut memory: Memory<K::Length>,
 ) -> Reply<N, K>
-    ensures answer { answer_in result ≡ enquired (enquiry_answer K.Kind.model (ledger_meaning N.Network.meaning ledger.now) (brought_in enquiry memory)) }
+    ensures answer { telling_in result ≡ an_answer (enquired (enquiry_answer K.Kind.model (ledger_meaning N.Network.meaning ledger.now) (brought_in enquiry memory))) }
     ensures returned { Returned (record { request = Request.Enquire enquiry memory; reply = result }) }
 {
     let found = enquire_in(ledger, &enquiry, &mut memory);
@@ -103,8 +104,8 @@ fn respond<N: Network, K: Kind + Drop>(
     ledger: &mut Ledger<N>,
     request: Request<N, K>,
 ) -> Reply<N, K>
-    ensures answer { answer_in result ≡ tally_answer K.Kind.model (N.Network.meaning (network_below ledger.old)) (ledger_tally ledger.old) (call_in request) }
-    ensures tally { ledger_tally ledger.new ≡ tally_next (N.Network.meaning (network_below ledger.old)) (ledger_tally ledger.old) (call_in request) }
+    ensures answer { telling_in result ≡ telling_by K.Kind.model (N.Network.meaning (network_below ledger.old)) (ledger_tally ledger.old) (asking_in request) }
+    ensures tally { ledger_tally ledger.new ≡ tally_then (N.Network.meaning (network_below ledger.old)) (ledger_tally ledger.old) (asking_in request) }
     ensures below { network_below ledger.new ≡ network_below ledger.old }
     ensures returned { Returned (record { request = request; reply = result }) }
 {

@@ -63,6 +63,11 @@ pub fn enquire<N: Network, K: Kind>(
     ensures tables { held_in tables.new ≡ (enquiry_answer K.Kind.model (N.Network.meaning network.now) (brought enquiry.now tables.old list.old (length notebook.old))).tables }
     ensures list { list.new ≡ (enquiry_answer K.Kind.model (N.Network.meaning network.now) (brought enquiry.now tables.old list.old (length notebook.old))).list }
     ensures notebook { is_some (first_failed (early_checks K.Kind.model (N.Network.meaning network.now) (brought enquiry.now tables.old list.old (length notebook.old)))) ≡ true → notebook.new ≡ notebook.old }
+    ensures same_length { tables.new.length.ghost_name ≡ tables.old.length.ghost_name }
+    ensures same_delay { tables.new.delay.ghost_name ≡ tables.old.delay.ghost_name }
+    ensures same_jitter { tables.new.jitter.ghost_name ≡ tables.old.jitter.ghost_name }
+    ensures same_charge { tables.new.charge.ghost_name ≡ tables.old.charge.ghost_name }
+    ensures same_hops { tables.new.hops.ghost_name ≡ tables.old.hops.ghost_name }
 {
     let copy = NetworkCopy::of(network);
     let sizes = Sizes {

@@ -25,6 +25,7 @@ fn fill_one<K: Kind>(
 }
 
 // The tables that a caller lends: least totals in the enquiry's kind, and of the four figures that have limits.
+#[derive(Drop)]
 pub struct LentTables<'a, L> {
     pub length: &'a mut [Option<L>],
     pub delay: &'a mut [Option<u32>],
@@ -51,6 +52,11 @@ pub(super) fn fill_tables<K: Kind>(
     ensures jitter { tables.new.jitter.now ≡ table_after (standard Jitter) (copy_meaning network.now) enquiry.now.width enquiry.now.destination tables.old.jitter.now }
     ensures charge { tables.new.charge.now ≡ table_after (standard Charge) (copy_meaning network.now) enquiry.now.width enquiry.now.destination tables.old.charge.now }
     ensures hops { tables.new.hops.now ≡ table_after (standard Hops) (copy_meaning network.now) enquiry.now.width enquiry.now.destination tables.old.hops.now }
+    ensures same_length { tables.new.length.ghost_name ≡ tables.old.length.ghost_name }
+    ensures same_delay { tables.new.delay.ghost_name ≡ tables.old.delay.ghost_name }
+    ensures same_jitter { tables.new.jitter.ghost_name ≡ tables.old.jitter.ghost_name }
+    ensures same_charge { tables.new.charge.ghost_name ≡ tables.old.charge.ghost_name }
+    ensures same_hops { tables.new.hops.ghost_name ≡ tables.old.hops.ghost_name }
 {
     let destination = enquiry.destination;
     let width = enquiry.width;

@@ -3,6 +3,7 @@ use Rattle.std.proofs.Common.{◌≡◌, refl, ap}
 use Rattle.routes.specs.Enquire.{enquiry_answer}
 use Rattle.ledger.specs.Ledgers.{ledger_meaning}
 use Rattle.desk.specs.Calls.{enquired}
+use Rattle.desk.specs.Questions.{an_answer}
 use Rattle.desk.specs.Turns.{brought_in}
 use Rattle.desk.proofs.SameMemory.{failed_early, same_answer}
 use Rattle.desk.proofs.serving.answer_enquiry.Goals as goal
@@ -15,7 +16,7 @@ returns g c =
     let did = c.enquire_in-found.ensures in
     let is = same_answer (enquiry_answer model net b) did.answer did.tables did.list in
     record {
-      answer = ap enquired is;
+      answer = ap (λ a. an_answer (enquired a)) is;
       returned = record {
         arcs = refl;
         lines = did.lines;

@@ -31,7 +31,7 @@ returns g c =
     let same = same_brought e (same_tables kind.value delay.value jitter.value charge.value hops.value) list.value notebook.value in
     record {
       answer = did.ensures.answer ∙ ap (λ b. (enquiry_answer model net b).result) same;
-      tables = same_tables by_kind by-delay by-jitter by-charge by-hops ∙ (did.ensures.tables ∙ ap (λ b. (enquiry_answer model net b).tables) same);
+      tables = same_tables by_kind by_delay by_jitter by_charge by_hops ∙ (did.ensures.tables ∙ ap (λ b. (enquiry_answer model net b).tables) same);
       list = rows ∙ (did.ensures.list ∙ ap (λ b. (enquiry_answer model net b).list) same);
       lines = ap length lines ∙ (did.auto.notebook ∙ ap length notebook.value);
       notebook = λ some. lines ∙ (did.ensures.notebook (ap (λ b. is_some (first_failed (early_checks model net b))) same ∙ some) ∙ notebook.value);

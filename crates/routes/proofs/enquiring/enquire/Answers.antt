@@ -26,6 +26,11 @@ returns-in-Some g c =
       tables = sym (ap (λ a. a.tables) is);
       list = sym (ap (λ a. a.list) is);
       notebook = λ _. refl;
+      same_length = refl;
+      same_delay = refl;
+      same_jitter = refl;
+      same_charge = refl;
+      same_hops = refl;
     }
 
 pub fill_tables-requires : goal.fill_tables-requires
@@ -90,4 +95,9 @@ returns g c =
           ∙ sym (ap (λ a. a.tables) is) ∙ ap (λ n. (enquiry_answer model n b).tables) same;
       list = c.find_routes.ensures.list ∙ sym (ap (λ a. a.list) is) ∙ ap (λ n. (enquiry_answer model n b).list) same;
       notebook = λ some. absurd (clash (sym (ap is_some (subst (λ n. first_failed (early_checks model n b) ≡ None) same none)) ∙ some));
+      same_length = c.fill_tables.ensures.same_length;
+      same_delay = c.fill_tables.ensures.same_delay;
+      same_jitter = c.fill_tables.ensures.same_jitter;
+      same_charge = c.fill_tables.ensures.same_charge;
+      same_hops = c.fill_tables.ensures.same_hops;
     }

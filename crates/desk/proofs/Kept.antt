@@ -1,5 +1,5 @@
 -- After closings alone, an enquiry that asks alike lists again what is still open.
-use Rattle.std.proofs.Common.{◌≡◌, ℕ, ◌+◌, ◌<◌, ◌≤◌, Bool, true, false, cond, not, ◌&&◌, ◌||◌, T, eqb, ltb, leb, ◌⊎◌, List, [], ◌∷◌, ◌++◌, length, Some, Ok, filter, sym, refl, ap, ◌∙◌, subst, inl, inr, ⊎_elim, append_assoc, zero-add, arith, T_not}
+use Rattle.std.proofs.Common.{◌≡◌, ℕ, ◌<◌, ◌≤◌, Bool, true, false, cond, not, ◌&&◌, ◌||◌, T, eqb, ltb, leb, ◌⊎◌, List, [], ◌∷◌, ◌++◌, length, Some, Ok, filter, sym, refl, ap, ◌∙◌, subst, inl, inr, ⊎_elim, append_assoc, zero-add, arith, T_not}
 use lib.ListN.{get_or-eq_default}
 use Rattle.std.proofs.lemmas.List.FromFn.{length-map-range_with_len, get_or-map-range_with_len}
 use Rattle.std.proofs.lemmas.Bool.{ltb-true, leb-true, eqb-false, and_parts, and_from, or_right, or_from, or_parts, not-true, not_from_false, cases_Bool, cases_lt}
@@ -13,7 +13,6 @@ use Rattle.length.proofs.Least.{walk_ok}
 use Rattle.length.proofs.Members.{in_kept, from_kept}
 use Rattle.routes.specs.declared.enquiry.Enquiry.{Enquiry}
 use Rattle.routes.specs.declared.enquiry.Found.{Found}
-use Rattle.routes.specs.Totals.{total}
 use Rattle.routes.specs.Routes.{routes_in, route_order}
 use Rattle.routes.specs.Enquire.{Brought, EnquiryAnswer, early_checks}
 use Rattle.routes.specs.Listing.{Feasible, Lists}

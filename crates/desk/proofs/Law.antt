@@ -1,5 +1,5 @@
 -- The law of a ledger holds of the tally's own trace, whatever the calls.
-use Rattle.std.proofs.Common.{◌≡◌, sym, ap, ◌∙◌, subst}
+use Rattle.std.proofs.Common.{sym, ap, ◌∙◌, subst}
 use Rattle.network.specs.Lists.{In, distinct}
 use Rattle.length.specs.Model.{Model}
 use Rattle.ledger.specs.Tally.{opened}

@@ -1,11 +1,11 @@
 -- What stands after each turn that a client is served, and the law over all of them.
-use Rattle.std.proofs.Common.{◌≡◌, ℕ, ◌+◌, ◌<◌, ◌⊎◌, ◌↔◌, List, [], ◌∷◌, ◌++◌, length, Some, None, Option, sym, refl, ap, ◌∙◌, subst, append-nil}
+use Rattle.std.proofs.Common.{◌≡◌, ℕ, ◌+◌, ◌⊎◌, List, [], ◌∷◌, ◌++◌, length, Some, None, Option, sym, refl, ap, ◌∙◌, subst, append-nil}
 use Rattle.std.specs.List.{AllByRecursion}
 use Rattle.std.proofs.ByRecursion.{All-append}
 use Rattle.std.proofs.lemmas.List.{length-append}
 use Rattle.network.specs.declared.arc.Arc.{Arc}
 use Rattle.network.specs.Lists.{In, distinct}
-use Rattle.network.specs.Net.{Net, WellFormed, arc_at, arc_count}
+use Rattle.network.specs.Net.{Net, WellFormed, arc_at}
 use Rattle.length.specs.Model.{Model, Lawful}
 use Rattle.ledger.specs.declared.ledger.Ledger.{Ledger}
 use Rattle.ledger.specs.Ledgers.{ledger_meaning, ledger_tally, network_below, tickets_held}
@@ -14,7 +14,7 @@ use Rattle.ledger.proofs.HeldRows.{held_in_rows, held_rows_once}
 use Rattle.ledger.specs.Shown.{shown_at}
 use Rattle.desk.specs.declared.requests.Request.{Request}
 use Rattle.desk.specs.declared.requests.Reply.{Reply}
-use Rattle.desk.specs.Calls.{Call, tally_answer, tally_from, tally_of}
+use Rattle.desk.specs.Calls.{tally_answer, tally_from, tally_of}
 use Rattle.desk.specs.Questions.{Asking, Question, Telling, a_call, a_question, a_showing, shown_by, tally_then, telling_by}
 use Rattle.desk.specs.Trace.{Step, Trace, calls, net_after}
 use Rattle.desk.specs.Faithful.{Faithful, run_from}

@@ -14,9 +14,9 @@ use Rattle.ledger.specs.Told.{hold_told, end_told, close_told, reopen_told}
 use Rattle.desk.specs.declared.requests.Memory.{Memory}
 use Rattle.desk.specs.declared.requests.Request.{Request}
 use Rattle.desk.specs.declared.requests.Reply.{Reply}
-use Rattle.desk.specs.Calls.{Call, enquire, hold, confirm, let_go, end, close, reopen, HandedBack, Answer, enquired, held, confirmed, gone, ended, closed, reopened}
+use Rattle.desk.specs.Calls.{enquire, hold, confirm, let_go, end, close, reopen, HandedBack, enquired, held, confirmed, gone, ended, closed, reopened}
 use Rattle.desk.specs.Questions.{of_arc, of_length, an_arc, a_length, Asking, a_call, a_question, Telling, an_answer, a_showing}
-use Rattle.desk.specs.Trace.{Step, Trace}
+use Rattle.desk.specs.Trace.{Trace}
 
 -- what the five tables in a client's memory hold
 abbrev pub tables_in : {L : Type 0} → Memory L → Tables L

@@ -13,6 +13,7 @@ use orders::{NumberedOrder, carry_out, read_line};
 use sheet::Sheet;
 use std::alloc::Global;
 use std::io;
+use std::process::ExitCode;
 
 // A network, and the orders on it so far.
 #[derive(Drop)]
@@ -71,11 +72,18 @@ fn list_all(rt: &HostRuntime, text: &str) -> Result<(), ListingsFailure> {
     close_case(rt, case)
 }
 
-fn main(rt: HostRuntime) -> Result<(), ListingsFailure> {
+// Takes every line of the standard input.
+fn list_input(rt: &HostRuntime) -> Result<(), ListingsFailure> {
     let text = io::read_to_string(rt.alloc(), rt.stdin())?;
-    let result = list_all(&rt, text.as_str());
-    if let Err(failure) = &result {
-        let _ = eprintln!(rt; "{failure}");
+    list_all(rt, text.as_str())
+}
+
+fn main(rt: HostRuntime) -> ExitCode {
+    match list_input(&rt) {
+        Ok(()) => ExitCode::SUCCESS,
+        Err(failure) => {
+            let _ = eprintln!(rt; "{failure}");
+            ExitCode::FAILURE
+        }
     }
-    result
 }

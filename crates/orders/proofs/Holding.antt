@@ -1,20 +1,21 @@
 -- What is in hand stays held, whatever is asked.
-use Rattle.std.proofs.Common.{◌≡◌, ℕ, ◌+◌, Bool, true, false, cond, not, ◌&&◌, ◌||◌, eqb, leb, List, [], ◌∷◌, ◌++◌, map, Some, None, Ok, Err, vec_items, filter, Option, Result, sym, refl, ap, ◌∙◌, subst, inl, inr, ⊎_elim, append-nil, arith}
+use Rattle.std.proofs.Common.{◌≡◌, ℕ, ◌+◌, Bool, true, false, cond, not, eqb, leb, List, [], ◌∷◌, ◌++◌, map, Some, None, Ok, Err, vec_items, filter, Option, Result, sym, refl, ap, ◌∙◌, subst, inl, inr, ⊎_elim, append-nil, arith}
 use borrow.Author.Tests.{clash}
 use Rattle.std.proofs.lemmas.Bool.{and_from, and_parts, eq-eqb, leb-true, ne_eqb, not_from_false, or_from, or_left, or_right}
 use Rattle.network.specs.Checks.{Told, answered, first_failed, refusal}
-use Rattle.network.specs.Lists.{In, all_of, among, any_of, distinct}
+use Rattle.network.specs.Lists.{In, all_of, among, any_of}
 use Rattle.network.specs.Net.{Net}
 use Rattle.length.specs.Model.{Model}
-use Rattle.length.proofs.Members.{from_kept, in_kept}
+use Rattle.length.proofs.Members.{in_kept}
 use Rattle.ledger.specs.Slips.{ticket_on}
-use Rattle.ledger.specs.Tally.{Entry, Tally, is_booked, close_next, close_refusal, confirm_next, end_refusal, is_held, held_tickets, hold_next, hold_refusal, next_ticket, reopen_next, reopen_refusal, slip_refusal, strike_next, unless_refused}
-use Rattle.desk.specs.Calls.{Answer, Call, HandedBack, enquired, held, confirmed, gone, ended, closed, reopened, shown, taken_or_back, tally_answer, tally_next}
-use Rattle.desk.specs.Turns.{answer_in, call_in}
+use Rattle.ledger.specs.Tally.{Entry, Tally, is_booked, close_next, close_refusal, confirm_next, is_held, held_tickets, hold_next, hold_refusal, next_ticket, reopen_next, reopen_refusal, slip_refusal, strike_next, unless_refused}
+use Rattle.desk.specs.Calls.{Answer, HandedBack, enquired, held, confirmed, gone, ended, closed, reopened, taken_or_back}
+use Rattle.desk.specs.Questions.{Telling, an_answer, a_showing, tally_then, telling_by}
+use Rattle.desk.specs.Turns.{asking_in, telling_in}
 use Rattle.desk.specs.declared.requests.Request.{Request}
 use Rattle.desk.specs.declared.requests.Reply.{Reply}
-use Rattle.desk.proofs.Slips.{Sound, distinct_push, held_book, held_ended, held_more, held_struck, new_ticket}
-use Rattle.orders.specs.InHand.{AllHeld, TakenOut, came_back, slips_brought, slips_given}
+use Rattle.desk.proofs.Slips.{Sound, distinct_push, held_book, held_ended, held_more, held_struck}
+use Rattle.orders.specs.InHand.{AllHeld, TakenOut, slips_brought, slips_given}
 use Rattle.orders.proofs.Members.{from_last, in_among, in_last, in_left, in_middle, once_middle, the_middle}
 
 -- a held ticket is not refused
@@ -95,9 +96,12 @@ given_by (gone r) = back_by r
 given_by (ended r) = []
 given_by (closed r) = []
 given_by (reopened r) = []
-given_by (shown s) = []
 
-given_is : {N K L : Type 0} (reply : Reply N K L) → slips_given reply ≡ given_by (answer_in reply)
+abbrev given_in : {L : Type 0} → Telling L → List ℕ
+given_in (an_answer a) = given_by a
+given_in (a_showing s) = []
+
+given_is : {N K L : Type 0} (reply : Reply N K L) → slips_given reply ≡ given_in (telling_in reply)
 given_is (Reply.Enquired r m) = refl
 given_is (Reply.Held (Ok slip) arcs) = refl
 given_is (Reply.Held (Err refusal) arcs) = refl
@@ -117,7 +121,7 @@ quiet t hand left h out = subst (AllHeld t) (left_same hand left out) h
 module _ {N K L : Type 0} (model : K → Model L) (net : Net) (t : Tally) (sound : Sound t) (hand left : List ℕ) (h : AllHeld t hand) where
   -- what is in hand after a call and its answer is held
   still_held : (request : Request N K L) → TakenOut hand (slips_brought request) left
-      → AllHeld (tally_next net t (call_in request)) (left ++ given_by (tally_answer model net t (call_in request)))
+      → AllHeld (tally_then net t (asking_in request)) (left ++ given_in (telling_by model net t (asking_in request)))
   still_held (Request.Enquire e m) out = quiet t hand left h out
   still_held (Request.Hold width arcs) out = go (hold_refusal net t width (vec_items arcs))
     where
@@ -144,7 +148,7 @@ module _ {N K L : Type 0} (model : K → Model L) (net : Net) (t : Tally) (sound
   still_held (Request.Ask arc) out = quiet t hand left h out
   still_held (Request.Measure kind arcs) out = quiet t hand left h out
 
-  pub turn_held : (request : Request N K L) (reply : Reply N K L) → answer_in reply ≡ tally_answer model net t (call_in request) → TakenOut hand (slips_brought request) left
-      → AllHeld (tally_next net t (call_in request)) (left ++ slips_given reply)
+  pub turn_held : (request : Request N K L) (reply : Reply N K L) → telling_in reply ≡ telling_by model net t (asking_in request) → TakenOut hand (slips_brought request) left
+      → AllHeld (tally_then net t (asking_in request)) (left ++ slips_given reply)
   turn_held request reply is out =
-      subst (λ ts. AllHeld (tally_next net t (call_in request)) (left ++ ts)) (sym (given_is reply ∙ ap given_by is)) (still_held request out)
+      subst (λ ts. AllHeld (tally_then net t (asking_in request)) (left ++ ts)) (sym (given_is reply ∙ ap given_in is)) (still_held request out)

@@ -3,7 +3,7 @@ use anyhow::anyhow;
 use std::alloc::AllocError;
 use std::{fmt, io};
 
-#[derive(Drop)]
+#[derive(Debug, Drop)]
 pub enum OrdersFailure {
     // what is said cannot be written
     Outside(anyhow::Error),

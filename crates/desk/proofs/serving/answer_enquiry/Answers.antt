@@ -1,5 +1,5 @@
 -- An enquiry is answered, and leaves its memory, as it is defined.
-use Rattle.std.proofs.Common.{◌≡◌, refl, ap}
+use Rattle.std.proofs.Common.{refl, ap}
 use Rattle.routes.specs.Enquire.{enquiry_answer}
 use Rattle.ledger.specs.Ledgers.{ledger_meaning}
 use Rattle.desk.specs.Calls.{enquired}

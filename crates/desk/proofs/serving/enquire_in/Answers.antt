@@ -1,5 +1,5 @@
 -- An enquiry in a client's memory leaves in it what the enquiry leaves.
-use Rattle.std.proofs.Common.{◌≡◌, length, is_some, ap, ◌∙◌}
+use Rattle.std.proofs.Common.{length, is_some, ap, ◌∙◌}
 use Rattle.std.proofs.lemmas.List.{with_items_is}
 use Rattle.network.specs.Checks.{first_failed}
 use Rattle.routes.specs.Enquire.{early_checks, enquiry_answer}

@@ -1,5 +1,5 @@
 -- A slip in hand is that of a held row, so it is let go.
-use Rattle.std.proofs.Common.{◌≡◌, map, is_ok, vec_items, sym, ap, ◌∙◌, subst}
+use Rattle.std.proofs.Common.{map, is_ok, vec_items, sym, ap, ◌∙◌, subst}
 use borrow.Author.Tests.{clash}
 use Rattle.network.specs.Checks.{answered}
 use Rattle.ledger.specs.Ledgers.{ledger_tally}

@@ -1,5 +1,5 @@
 -- After the last slip, none is that of the ticket.
-use Rattle.std.proofs.Common.{eqb, length, vec_items, arith}
+use Rattle.std.proofs.Common.{eqb, vec_items, arith}
 use Rattle.std.proofs.lemmas.List.{length-map}
 use Rattle.ledger.specs.Slips.{ticket_on}
 use Rattle.ledger.proofs.Tests.{any_none}

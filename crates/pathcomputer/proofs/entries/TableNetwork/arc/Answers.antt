@@ -1,5 +1,5 @@
 -- The arc of a number stands at its place in the list.
-use Rattle.std.proofs.Common.{◌≡◌, vec_items, ◌∙◌, subst}
+use Rattle.std.proofs.Common.{vec_items, ◌∙◌}
 use Rattle.pathcomputer.proofs.Kept.{found_at}
 use Rattle.pathcomputer.proofs.entries.TableNetwork.arc.Goals as goal
 

@@ -7,10 +7,10 @@ use Rattle.ledger.specs.Rows.{OneRowEach, SoldIs, blank_row, earlier, entries_of
 use Rattle.ledger.specs.Tally.{Tally, opened}
 
 -- the default of a list of one value is that value
-getD_same : {A : Type 0} (n i : ℕ) (a : A) → get_or (replicate n a) i a ≡ a
-getD_same zero i a = refl
-getD_same (suc n) zero a = refl
-getD_same (suc n) (suc i) a = getD_same n i a
+get_or_same : {A : Type 0} (n i : ℕ) (a : A) → get_or (replicate n a) i a ≡ a
+get_or_same zero i a = refl
+get_or_same (suc n) zero a = refl
+get_or_same (suc n) (suc i) a = get_or_same n i a
 
 sum_blank : (value : Row → ℕ) → value blank_row ≡ 0 → (n : ℕ) → sum_by value (replicate n blank_row) ≡ 0
 sum_blank value e zero = refl
@@ -32,8 +32,8 @@ module _ (n : ℕ) (r : Row) (blank : r ≡ blank_row) where
   fits_blank = rw blank (all_blank n)
 
   pub sold_blank : (m : ℕ) → SoldIs (replicate m 0) (replicate n r)
-  sold_blank m = rw blank (λ arc l. getD_same m arc 0 ∙ sym (sum_blank (width_on arc) refl n))
+  sold_blank m = rw blank (λ arc l. get_or_same m arc 0 ∙ sym (sum_blank (width_on arc) refl n))
 
   pub opened_blank : (m : ℕ) → ◌≡◌ {A = Tally} (record { marked = λ i. get_or (replicate m false) i false; given = 0; entries = entries_of (replicate n r) }) opened
   opened_blank m =
-      rw blank (λ i. record { marked = λ j. getD_same m j false i; given = 0; entries = sort earlier (map row_entry (kept_blank n i)) })
+      rw blank (λ i. record { marked = λ j. get_or_same m j false i; given = 0; entries = sort earlier (map row_entry (kept_blank n i)) })

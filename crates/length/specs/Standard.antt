@@ -1,7 +1,7 @@
 -- The standard kinds. Weight, delay, jitter, charge and hops add up from 0, and a sum stops at
 -- 4,294,967,295. Width is the least capacity on the way, and the greater width is the shorter.
 --
-use Rattle.std.specs.Prelude.{ℕ, ◌+◌, min, leb, nat_le}
+use Rattle.std.specs.Prelude.{ℕ, ◌+◌, min, nat_le}
 use Rattle.network.specs.declared.arc.Arc.{Arc}
 use Rattle.length.specs.declared.standard.StandardKind.{StandardKind}
 use Rattle.length.specs.declared.standard.StandardKind.TheVariants.{Weight, Delay, Jitter, Charge, Hops, Width}
@@ -14,7 +14,7 @@ capped_sum a b = min (a + b) 4294967295
 -- lengths that add up from 0, by a figure of each arc
 abbrev pub adding : (Arc → ℕ) → Model ℕ
 adding figure =
-    record { valid = λ x. nat_le x 4294967295; arc = figure; empty = 0; join = capped_sum; no_longer = leb }
+    record { valid = λ x. nat_le x 4294967295; arc = figure; empty = 0; join = capped_sum; no_longer = nat_le }
 
 -- the least capacity on the way; the empty length is the greatest capacity, and the greater width is the shorter
 abbrev pub narrowing : Model ℕ

@@ -1,5 +1,5 @@
 -- Walks: rows of arc numbers, each arc beginning where the last ended.
-use Rattle.std.specs.Prelude.{ℕ, Bool, cond, not, ◌&&◌, ◌||◌, ltb, List, [], ◌∷◌, map, length, Some, None, Option, Result, ◌==◌, nat_le, nat_lt}
+use Rattle.std.specs.Prelude.{ℕ, Bool, cond, not, ◌&&◌, ◌||◌, List, [], ◌∷◌, map, length, Some, None, Option, Result, ◌==◌, nat_le, nat_lt}
 use Rattle.network.specs.Lists.{all_of}
 use Rattle.network.specs.Checks.{Told, refusal, first_failed, answered}
 use Rattle.network.specs.Net.{Net, arc_count, arc_at}
@@ -38,7 +38,7 @@ arcs_outside arcs = nat_lt (length arcs) 1 || nat_lt 15 (length arcs)
 
 -- some number is not that of an arc
 abbrev pub no_such_arc : Net → List ℕ → Bool
-no_such_arc net arcs = not (all_of (λ i. ltb i (arc_count net)) arcs)
+no_such_arc net arcs = not (all_of (λ i. nat_lt i (arc_count net)) arcs)
 
 abbrev pub row_refusal : Net → List ℕ → Option Told
 row_refusal net arcs =

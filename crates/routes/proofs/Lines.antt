@@ -24,7 +24,7 @@ use Rattle.routes.proofs.Sorting.{Unique, Rising, from_sort, into_sort, sort_ris
 use Rattle.routes.proofs.Once.{in_left, in_right, from_append, in_joined, from_joined, unique_kept, last_of}
 use Rattle.routes.proofs.Orders.{by_length_antisym, by_length_trans, by_length_total}
 use Rattle.routes.proofs.Enumerate.{hops_total, path_parent, in_paths, in_extended, paths_unique}
-use Rattle.routes.proofs.Places.{in_getD, unique_sort, up_to}
+use Rattle.routes.proofs.Places.{in_get_or, unique_sort, up_to}
 
 -- a number of arcs that fits once more is joined to it
 few_of : (n r total limit : ℕ) → total ≡ min n 4294967295 → limit ≤ 15 → min (total + r) 4294967295 ≤ limit → n ≤ limit
@@ -205,7 +205,7 @@ module _ {K L : Type 0} (model : K → Model L) (net : Net) (e : Enquiry K)
 
     -- what stands at a place
     pub at_place : (k : ℕ) → k < length (partial_routes model net e) → Admitted model net e (get_or (partial_routes model net e) k [])
-    at_place k h = partial_admitted (get_or (partial_routes model net e) k []) (in_getD (partial_routes model net e) k [] h)
+    at_place k h = partial_admitted (get_or (partial_routes model net e) k []) (in_get_or (partial_routes model net e) k [] h)
 
     -- the parent of what stands at a place stands before it
     parent_taken : (k : ℕ) → k < length (partial_routes model net e) → (p : List ℕ) (i : ℕ) → get_or (partial_routes model net e) k [] ≡ p ++ i ∷ []

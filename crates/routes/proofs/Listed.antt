@@ -16,7 +16,7 @@ use Rattle.routes.specs.Lines.{Asked}
 use Rattle.routes.specs.Rows.{PlacesInside, no_row, row_at, row_on, rows_at}
 use Rattle.routes.specs.Work.{Ended}
 use Rattle.routes.proofs.Lines.{few_hops}
-use Rattle.routes.proofs.Places.{in_getD}
+use Rattle.routes.proofs.Places.{in_get_or}
 use Rattle.routes.proofs.Sorting.{from_sort, from_take}
 use Rattle.routes.proofs.Taken.{feasible_admitted}
 
@@ -62,6 +62,6 @@ module _ {K L : Type 0} (model : K → Model L) (net : Net) (e : Enquiry K) (law
   listed_inside work notebook ended j h =
       let one = ended.each j h in
       let r = get_or (route_list model net e) j [] in
-      let few : length r ≤ 15 = listed_few r (in_getD (route_list model net e) j [] (omega (arith, ended.routes, h))) in
+      let few : length r ≤ 15 = listed_few r (in_get_or (route_list model net e) j [] (omega (arith, ended.routes, h))) in
       let long : length one.0.arcs ≡ 15 = ap (λ (l : Line L). length l.arcs) one.2 ∙ length-append r (replicate (15 - length r) 0) ∙ ap (λ n. length r + n) (length-replicate (15 - length r) 0) ∙ omega arith in
       (one.0, one.1, long)

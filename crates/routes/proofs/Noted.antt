@@ -12,7 +12,7 @@ use Rattle.routes.specs.declared.enquiry.Enquiry.{Enquiry}
 use Rattle.routes.specs.declared.line.Line.{Line}
 use Rattle.routes.specs.Lines.{line_of}
 use Rattle.routes.specs.Work.{Noted, OneLine, marked}
-use Rattle.routes.proofs.Places.{in_getD, not_before}
+use Rattle.routes.proofs.Places.{in_get_or, not_before}
 use Rattle.routes.proofs.Sorting.{Unique}
 
 nth_set_same : {A : Type 0} (xs : List A) (i : ℕ) (x : A) → i < length xs → slice_get (set xs i x) i ≡ Some x
@@ -50,7 +50,7 @@ in_index (y ∷ ys) x d (inr h) = let r = in_index ys x d h in (suc r.0, omega (
 less_apart : {A : Type 0} (xs : List A) (i j : ℕ) (d : A) → Unique xs → j < length xs → i < j → get_or xs i d ≡ get_or xs j d → ⊥
 less_apart xs i j d once h lt e =
     not_before xs j d once h
-    (subst (λ x. In x (take j xs)) (get_or-take j xs i d lt ∙ e) (in_getD (take j xs) i d (omega (arith, length-take-le j xs (omega arith)))))
+    (subst (λ x. In x (take j xs)) (get_or-take j xs i d lt ∙ e) (in_get_or (take j xs) i d (omega (arith, length-take-le j xs (omega arith)))))
 
 pub same_place : {A : Type 0} (xs : List A) (i j : ℕ) (d : A) → Unique xs → i < length xs → j < length xs → get_or xs i d ≡ get_or xs j d → i ≡ j
 same_place xs i j d once hi hj e =

@@ -9,17 +9,17 @@ not_both : (b : Bool) → T (not b) → T b → ⊥
 not_both true h t = h
 not_both false h t = t
 
-pub in_getD : {A : Type 0} (xs : List A) (k : ℕ) (d : A) → k < length xs → In (get_or xs k d) xs
-in_getD [] k d h = absurd (omega arith)
-in_getD (x ∷ xs) zero d h = inl refl
-in_getD (x ∷ xs) (suc k) d h = inr (in_getD xs k d (omega arith))
+pub in_get_or : {A : Type 0} (xs : List A) (k : ℕ) (d : A) → k < length xs → In (get_or xs k d) xs
+in_get_or [] k d h = absurd (omega arith)
+in_get_or (x ∷ xs) zero d h = inl refl
+in_get_or (x ∷ xs) (suc k) d h = inr (in_get_or xs k d (omega arith))
 
 -- in a list with no item twice, the item at a place is not among those before it
 pub not_before : {A : Type 0} (xs : List A) (k : ℕ) (d : A) → Unique xs → k < length xs
     → In (get_or xs k d) (take k xs) → ⊥
 not_before [] k d u h i = absurd (omega arith)
 not_before (x ∷ xs) zero d u h i = i
-not_before (x ∷ xs) (suc k) d u h (inl q) = u.0 (subst (λ y. In y xs) q (in_getD xs k d (omega arith)))
+not_before (x ∷ xs) (suc k) d u h (inl q) = u.0 (subst (λ y. In y xs) q (in_get_or xs k d (omega arith)))
 not_before (x ∷ xs) (suc k) d u h (inr i) = not_before xs k d u.1 (omega arith) i
 
 pub unique_take : {A : Type 0} (k : ℕ) (xs : List A) → Unique xs → Unique (take k xs)

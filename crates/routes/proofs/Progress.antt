@@ -15,7 +15,7 @@ use Rattle.routes.specs.Choice.{AllSound, AllTaken, FirstLine, Sound, line_befor
 use Rattle.routes.specs.Work.{Noted}
 use Rattle.routes.proofs.Lines.{Admitted, few_hops, first_is_written, projects, written_admitted}
 use Rattle.routes.proofs.Noted.{in_index, in_left, in_right}
-use Rattle.routes.proofs.Places.{in_getD}
+use Rattle.routes.proofs.Places.{in_get_or}
 use Rattle.routes.proofs.Sorting.{Unique}
 use Rattle.routes.proofs.Written.{first_of, more_than, none_left, written_append, written_more, written_once}
 
@@ -64,7 +64,7 @@ module _ {K L : Type 0} (model : K → Model L) (net : Net) (e : Enquiry K) wher
       admitted_at : (j : ℕ) → j < used → Admitted model net e (get_or (written model net e (take k (partial_routes model net e))) j [])
       admitted_at j h =
           written_admitted model net e (take k (partial_routes model net e)) (get_or (written model net e (take k (partial_routes model net e))) j [])
-          (in_getD (written model net e (take k (partial_routes model net e))) j [] (omega (arith, noted.count)))
+          (in_get_or (written model net e (take k (partial_routes model net e))) j [] (omega (arith, noted.count)))
 
       pub all_sound : AllSound (model e.kind) notebook used
       all_sound j line h at =
@@ -80,7 +80,7 @@ module _ {K L : Type 0} (model : K → Model L) (net : Net) (e : Enquiry K) wher
           let one = noted.each at f.inside in
           let same : one.line ≡ f.line = some_same (sym one.there ∙ f.there) in
           let spare : In (get_or W at []) (take k (partial_routes model net e)) → ⊥ = one.not_taken (ap (λ (l : Line L). l.taken) same ∙ f.untaken) in
-          let inside : In (get_or W at []) W = in_getD W at [] (omega (arith, noted.count, f.inside)) in
+          let inside : In (get_or W at []) W = in_get_or W at [] (omega (arith, noted.count, f.inside)) in
           let some = more_than model net e law wf asked.source_there asked.few_hops k (get_or W at []) inside spare in (
             some,
             first_of model net e law wf asked.source_there asked.few_hops k some (get_or W at []) inside spare (λ x i n. comes at f x i n),

@@ -7,7 +7,7 @@ use Rattle.std.proofs.ByRecursion.{All-append, All-take, All-drop}
 use Rattle.std.proofs.lemmas.List.{get_or_append_left, get_or-append_right, nil_from_length, take-append-le, drop-append-le}
 use Rattle.std.proofs.lemmas.Bool.{cases_lt}
 use Rattle.sheet.specs.Bits.{bits, number, bits_of, bytes_of}
-use Rattle.sheet.specs.Rows.{Row, length_bits, row_bits, get_d_bits, number_bits_of, bits_number}
+use Rattle.sheet.specs.Rows.{Row, length_bits, row_bits, get_or_bits, number_bits_of, bits_number}
 
 abbrev pub Bytes : List ℕ → Type 0
 Bytes bytes = AllByRecursion (λ b. b < 256) bytes
@@ -80,19 +80,19 @@ bits_of_drop (suc k) (b ∷ bytes) =
     ∙ (sym (drop-append-add (bits 8 b) (bits_of bytes) (8 * k)) ∙ ap (λ n. drop n (bits 8 b ++ bits_of bytes)) (sym s))
 
 -- a bit of the bytes is a bit of the byte that it stands in
-pub getD_bits_of : (bytes : List ℕ) (p : ℕ) → p < 8 * length bytes → slice_index (bits_of bytes) p ≡ slice_index bytes (p / 8) / 2 ^ (7 - p % 8) % 2
-getD_bits_of [] p h = absurd (omega arith)
-getD_bits_of (b ∷ bytes) p h =
+pub get_or_bits_of : (bytes : List ℕ) (p : ℕ) → p < 8 * length bytes → slice_index (bits_of bytes) p ≡ slice_index bytes (p / 8) / 2 ^ (7 - p % 8) % 2
+get_or_bits_of [] p h = absurd (omega arith)
+get_or_bits_of (b ∷ bytes) p h =
     ⊎_elim
     (λ lt.
     let q : p / 8 ≡ 0 = omega arith in
     let r : p % 8 ≡ p = omega arith in
     get_or_append_left (bits 8 b) (bits_of bytes) 0 p (rw length_bits lt)
-    ∙ (get_d_bits 8 b p lt ∙ sym (ap (λ k. slice_index (b ∷ bytes) k / 2 ^ (7 - p % 8) % 2) q ∙ ap (λ k. b / 2 ^ (7 - k) % 2) r)))
+    ∙ (get_or_bits 8 b p lt ∙ sym (ap (λ k. slice_index (b ∷ bytes) k / 2 ^ (7 - p % 8) % 2) q ∙ ap (λ k. b / 2 ^ (7 - k) % 2) r)))
     (λ ge.
     let q : p / 8 ≡ suc ((p - 8) / 8) = omega arith in
     let r : p % 8 ≡ (p - 8) % 8 = omega arith in
     get_or-append_right (bits 8 b) (bits_of bytes) 8 p 0 (length_bits 8 b) ge
-    ∙ (getD_bits_of bytes (p - 8) (omega arith)
+    ∙ (get_or_bits_of bytes (p - 8) (omega arith)
     ∙ sym (ap (λ k. slice_index (b ∷ bytes) k / 2 ^ (7 - p % 8) % 2) q ∙ ap (λ k. slice_index bytes ((p - 8) / 8) / 2 ^ (7 - k) % 2) r)))
     (cases_lt p 8)

@@ -18,10 +18,10 @@ row_bits zero x = tt
 row_bits (suc w) x = (mod-lt (x / 2 ^ w) (lit< tt), row_bits w x)
 
 -- the bit at a place of a number's bits
-pub get_d_bits : (w x i : ℕ) → i < w → slice_index (bits w x) i ≡ x / 2 ^ (w - 1 - i) % 2
-get_d_bits zero x i h = absurd (omega arith)
-get_d_bits (suc w) x zero h = let e : suc w - 1 - 0 ≡ w = omega arith in rw e
-get_d_bits (suc w) x (suc i) h = let e : suc w - 1 - suc i ≡ w - 1 - i = omega arith in rw e (get_d_bits w x i (omega arith))
+pub get_or_bits : (w x i : ℕ) → i < w → slice_index (bits w x) i ≡ x / 2 ^ (w - 1 - i) % 2
+get_or_bits zero x i h = absurd (omega arith)
+get_or_bits (suc w) x zero h = let e : suc w - 1 - 0 ≡ w = omega arith in rw e
+get_or_bits (suc w) x (suc i) h = let e : suc w - 1 - suc i ≡ w - 1 - i = omega arith in rw e (get_or_bits w x i (omega arith))
 
 -- one place more
 places : (n b p r : ℕ) → (2 * n + b) * p + r ≡ n * (p * 2) + (b * p + r)

@@ -8,7 +8,7 @@ fill_table-requires g c =
     let net = g.N.Network.meaning c.args.network.now in
     let listed = listed_arcs net c.list_arcs-count.new.table _ c.list_arcs-count.result c.list_arcs-count.ensures.count c.list_arcs-count.ensures.table in
     let room : net.sites ≤ length c.args.table.now = omega (arith, c.sites.ensures, c.from-sites.ensures) in
-    (c.if-table-sites.false, (c.if-site-sites.false, rw listed (arcs_within net (length c.args.table.now) (g.met.N.Network.formed c.args.network.now) room)))
+    (omega (arith, c.if-table-sites.false), (c.if-site-sites.false, rw listed (arcs_within net (length c.args.table.now) (g.met.N.Network.formed c.args.network.now) room)))
 
 pub returns : goal.returns
 returns g c =

@@ -1,9 +1,7 @@
 -- A copy has the sites and arcs of its network.
-use Rattle.std.proofs.Common.{◌≡◌, true, length, take, sym, ap, ◌∙◌, subst, arith}
+use Rattle.std.proofs.Common.{◌≡◌, true, length, take, sym, refl, ap, ◌∙◌, arith}
 use Rattle.network.specs.Limits.{net_fits}
-use Rattle.network.specs.Net.{Net}
-use Rattle.network.proofs.Copied.{listed, same_net}
-use Rattle.network.specs.Fits.{formed_fits}
+use Rattle.network.proofs.Copied.{listed, same_fits, same_net}
 use Rattle.network.proofs.copy.NetworkCopy.of.Goals as goal
 
 pub invariant_of-result : goal.invariant_of-result
@@ -13,11 +11,10 @@ invariant_of-result g c =
     let count = c.list_arcs-count.result in
     let table = c.list_arcs-count.new.table in
     let arcs = listed net table _ count c.list_arcs-count.ensures.count c.list_arcs-count.ensures.table in
-    let same = same_net net c.sites.result (take count table) c.sites.ensures arcs in
     record {
       few_arcs = omega (arith, wf.few_arcs, c.list_arcs-count.ensures.count);
       counted = ap length arcs ∙ sym c.list_arcs-count.ensures.count;
-      limits = subst (λ (n : Net). net_fits n ≡ true) (sym same) (formed_fits net wf);
+      limits = let base : net_fits (record { sites = net.sites; arcs = take count table }) ≡ true = same_fits net net.sites (take count table) wf refl arcs in cc;
     }
 
 pub returns : goal.returns
@@ -25,4 +22,4 @@ returns g c =
     let net = g.N.Network.meaning c.args.network.now in
     let count = c.list_arcs-count.result in
     let table = c.list_arcs-count.new.table in
-    same_net net c.sites.result (take count table) c.sites.ensures (listed net table _ count c.list_arcs-count.ensures.count c.list_arcs-count.ensures.table)
+    same_net net _ (take count table) (cc) (listed net table _ count c.list_arcs-count.ensures.count c.list_arcs-count.ensures.table)

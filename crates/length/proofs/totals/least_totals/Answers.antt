@@ -19,5 +19,5 @@ returns g c =
     let done =
     totals_filled m net c.args.destination c.args.width c.args.table.now c.fill_table.new.table (g.met.K.Kind.lawful c.args.kind.now)
     (g.met.N.Network.formed c.args.network.now) (take (count - 0) c.list_arcs-count.new.table) c.from-sites.result (c.from-sites.ensures ∙ c.sites.ensures) listed
-    c.if-site-sites.false c.if-width-eq0.false c.if-table-sites.false c.fill_table.ensures in
+    c.if-site-sites.false c.if-width-eq0.false (omega (arith, c.if-table-sites.false)) c.fill_table.ensures in
     record { answer = done.answer; table = done.filled; least = λ _. done.least }

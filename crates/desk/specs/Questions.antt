@@ -33,12 +33,13 @@ pub data Telling (L : Type 0) : Type 0 where
   an_answer : Answer L → Telling L
   a_showing : Shown L → Telling L
 
--- what is told by the tally of the calls before, and the tally after it
+-- what is told, by the tally of the calls before
 module _ {K L : Type 0} (model : K → Model L) (net : Net) (t : Tally) where
   abbrev pub telling_by : Asking K L → Telling L
   telling_by (a_call call) = an_answer (tally_answer model net t call)
   telling_by (a_question q) = a_showing (shown_by model (free_net net t) q)
 
+-- the tally after it; a question leaves it as it was
 abbrev pub tally_then : {K L : Type 0} → Net → Tally → Asking K L → Tally
 tally_then net t (a_call call) = tally_next net t call
 tally_then net t (a_question q) = t

@@ -122,7 +122,8 @@ refused_early (an_answer (closed r)) = false
 refused_early (an_answer (reopened r)) = false
 refused_early (a_showing s) = false
 
--- the step of a trace, if a call was made and answered
+-- the step of a trace that a turn makes: a call with its answer, and none for a question. A call that was told no answer would
+-- make none either; that no turn is such is part of `Served`, by `answered`
 abbrev pub steps : {K L : Type 0} → Asking K L → Telling L → Trace K L
 steps (a_call call) (an_answer answer) = record { call = call; answer = answer } ∷ []
 steps (a_call call) (a_showing s) = []

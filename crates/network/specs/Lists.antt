@@ -1,5 +1,6 @@
 -- Words on lists that the other definitions use.
 use Rattle.std.specs.Prelude.{◌≡◌, ℕ, Bool, true, false, cond, not, ◌&&◌, ◌||◌, ◌⊎◌, List, [], ◌∷◌, ◌==◌, nat_eq, nat_lt}
+use Rattle.std.specs.List.{list_all, list_any}
 
 -- the item stands in the list
 abbrev pub In : {A : Type 0} → A → List A → Type 0
@@ -8,13 +9,11 @@ In x (y ∷ ys) = (x ≡ y) ⊎ In x ys
 
 -- some item passes the test
 abbrev pub any_of : {A : Type 0} → (A → Bool) → List A → Bool
-any_of test [] = false
-any_of test (x ∷ xs) = test x || any_of test xs
+any_of = list_any
 
 -- every item passes the test
 abbrev pub all_of : {A : Type 0} → (A → Bool) → List A → Bool
-all_of test [] = true
-all_of test (x ∷ xs) = test x && all_of test xs
+all_of = list_all
 
 -- the number stands in the list
 abbrev pub among : ℕ → List ℕ → Bool

@@ -3,7 +3,7 @@ ghost use Rattle.std.specs.Prelude.{◌≡◌};
 ghost use Rattle.network.specs.Net.{Net, WellFormed, arc_count, arc_of};
 
 // One arc: a one-way link from a site to another, with its five figures.
-#[derive(Clone, Copy, PartialEq, Eq, Debug)]
+#[derive(Clone, Copy, Default, PartialEq, Eq, Debug)]
 pub struct Arc {
     pub from: u8,
     pub to: u8,

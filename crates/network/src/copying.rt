@@ -7,23 +7,12 @@ use super::arc::{Arc, Network};
 use super::copy::NetworkCopy;
 use super::listing::list_arcs;
 
-// An arc of figures 0, for the places of a table that hold none.
-const NO_ARC: Arc = Arc {
-    from: 0,
-    to: 0,
-    weight: 0,
-    delay: 0,
-    jitter: 0,
-    charge: 0,
-    capacity: 0,
-};
-
 impl NetworkCopy {
     // A copy of a network.
     pub fn of<N: Network>(network: &N) -> NetworkCopy
         ensures { copy_meaning result ≡ N.Network.meaning network.now }
     {
-        let mut arcs = [NO_ARC; 256];
+        let mut arcs = [Arc::default(); 256];
         let count = list_arcs(network, &mut arcs);
         NetworkCopy {
             sites: network.sites(),
@@ -47,9 +36,6 @@ impl Network for NetworkCopy {
     }
 
     fn arc(&self, number: u32) -> Option<Arc> {
-        if number as usize >= self.count {
-            return None;
-        }
-        Some(self.arcs[number as usize])
+        self.arcs[..self.count].get(number as usize).copied()
     }
 }

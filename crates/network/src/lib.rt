@@ -9,6 +9,7 @@ pub mod figures;
 pub mod headroom;
 pub mod listing;
 pub mod plan;
+pub mod refusal;
 pub mod ring;
 
 pub use arc::{Arc, Network};
@@ -17,3 +18,4 @@ pub use figures::{Figures, RingRefusal};
 pub use headroom::Headroom;
 pub use listing::list_arcs;
 pub use plan::RingPlan;
+pub use refusal::Refusal;

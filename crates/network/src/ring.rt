@@ -22,7 +22,8 @@ fn over_limit(figures: Figures) -> bool
 
 // The site after a site of the ring.
 fn next_site(sites: u8, site: u8) -> u8
-    requires { (site < sites) × (sites ≤ 64) }
+    requires inside { site < sites }
+    requires few { sites ≤ 64 }
     ensures { result ≡ next_site sites site }
 {
     (site + 1) % sites

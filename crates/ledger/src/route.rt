@@ -7,25 +7,11 @@ ghost use Rattle.ledger.specs.Tally.{is_joined, sites_met};
 
 use network::{Arc, Network};
 
-// An arc of figures 0, for where there is none.
-const NO_ARC: Arc = Arc {
-    from: 0,
-    to: 0,
-    weight: 0,
-    delay: 0,
-    jitter: 0,
-    charge: 0,
-    capacity: 0,
-};
-
 // The arc of a number that has one.
 fn arc_at<N: Network>(network: &N, number: u32) -> Arc
     ensures { result ≡ arc_at (N.Network.meaning network.now) number }
 {
-    match network.arc(number) {
-        Some(arc) => arc,
-        None => NO_ARC,
-    }
+    network.arc(number).unwrap_or_default()
 }
 
 // The site where an arc begins.

@@ -6,7 +6,7 @@ ghost use Rattle.ledger.specs.Slips.{handed_back, if_refused, slip_in, slip_told
 ghost use Rattle.ledger.specs.Tally.{confirm_next, slip_refusal, strike_next, unless_refused};
 
 use super::ledger::Ledger;
-use network::Network;
+use network::{Network, Refusal};
 use std::fmt;
 use std::marker::PhantomData;
 
@@ -22,16 +22,17 @@ pub enum SlipRefusal<N> {
     NotHeld(Slip<N>),
 }
 
-impl<N: Network> SlipRefusal<N> {
-    // The number of the check that failed.
-    pub fn number(&self) -> u32
-        ensures { result ≡ (slip_told self.now).number }
-    {
+impl<N: Network> Refusal for SlipRefusal<N> {
+    ghost told = { slip_told };
+
+    fn number(&self) -> u32 {
         match self {
             SlipRefusal::NotHeld(_) => 40,
         }
     }
+}
 
+impl<N: Network> SlipRefusal<N> {
     // Gives the slip back.
     pub fn slip(self) -> Slip<N>
         ensures { result ≡ slip_in self }

@@ -9,17 +9,6 @@ use super::kind::Kind;
 use super::refusals::LeastTotalsRefusal;
 use network::{Arc, Network, list_arcs};
 
-// An arc of figures 0, for the places of a table that hold none.
-const NO_ARC: Arc = Arc {
-    from: 0,
-    to: 0,
-    weight: 0,
-    delay: 0,
-    jitter: 0,
-    charge: 0,
-    capacity: 0,
-};
-
 // Whether a length is shorter than what stands in a table.
 fn is_shorter<K: Kind>(kind: &K, length: K::Length, here: Option<K::Length>) -> bool
     ensures { result ≡ shortens (K.Kind.model kind.now) here length }
@@ -125,7 +114,7 @@ pub fn least_totals<N: Network, K: Kind>(
     if table.len() < sites {
         return Err(LeastTotalsRefusal::TableTooShort);
     }
-    let mut arcs = [NO_ARC; 256];
+    let mut arcs = [Arc::default(); 256];
     let count = list_arcs(network, &mut arcs);
     fill_table(kind, &arcs[0..count], sites, site, width, table);
     Ok(())

@@ -1,6 +1,6 @@
 // The length of rows of arcs: 0, 1, 15 and 16 of them, and one that is not there.
 use length::{StandardKind, row_length};
-use network::{Figures, RingPlan};
+use network::{Figures, Refusal, RingPlan};
 use std::io;
 
 fn show(rt: &HostRuntime, plan: &RingPlan, kind: StandardKind, arcs: &[u32]) -> io::Result<()> {

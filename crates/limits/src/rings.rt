@@ -1,5 +1,5 @@
 // Ring plans at both ends of every limit.
-use network::{Figures, Network, RingPlan};
+use network::{Figures, Network, Refusal, RingPlan};
 use std::io;
 
 // Prints what a plan of so many sites and these figures answers.

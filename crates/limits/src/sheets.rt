@@ -1,5 +1,5 @@
 // Sheets: every refusal in its order, both ends of every field, and buffers too short, just long enough and longer.
-use network::{Figures, Network, RingPlan};
+use network::{Figures, Network, Refusal, RingPlan};
 use sheet::{Sheet, write_sheet};
 use std::io;
 

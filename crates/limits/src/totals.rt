@@ -1,6 +1,6 @@
 // Least totals: every refusal in its order, the rest of the table, and widths that no arc has.
 use length::{StandardKind, least_totals};
-use network::{Figures, Headroom, Network, RingPlan};
+use network::{Figures, Headroom, Network, Refusal, RingPlan};
 use std::io;
 
 // Works the totals out into a part of a table of five places that hold 7, and prints the answer and all five.

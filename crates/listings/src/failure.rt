@@ -1,5 +1,6 @@
 // Why the cases are not carried out to the end.
 use anyhow::anyhow;
+use network::Refusal;
 use orders::OrdersFailure;
 use sheet::ReadRefusal;
 use std::{fmt, io};

@@ -3,7 +3,7 @@ use super::failure::OrdersFailure;
 use super::order::{NumberedOrder, Order, OrderFault};
 use desk::Memory;
 use length::{RowRefusal, StandardKind};
-use network::Arc;
+use network::{Arc, Refusal};
 use routes::{Enquiry, EnquiryRefusal, Found, Line, RouteRow};
 use std::alloc::{AllocError, Global};
 use std::vec::IntoIter;

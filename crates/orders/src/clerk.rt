@@ -10,7 +10,7 @@ use super::order::NumberedOrder;
 use super::pocket::Pocket;
 use desk::{Client, Reply, Request, serve};
 use length::StandardKind;
-use network::Network;
+use network::{Network, Refusal};
 
 pub(super) struct Clerk<N> {
     pub(super) pocket: Pocket<N>,

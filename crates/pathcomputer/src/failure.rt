@@ -1,7 +1,7 @@
 // Why a command is not carried out, in words and figures.
 use anyhow::anyhow;
 use length::LeastTotalsRefusal;
-use network::RingRefusal;
+use network::{Refusal, RingRefusal};
 use orders::OrdersFailure;
 use sheet::{ReadRefusal, WriteRefusal};
 use std::alloc::AllocError;

@@ -2,30 +2,31 @@
 ghost use Rattle.std.specs.Prelude.{◌≡◌};
 ghost use Rattle.sheet.specs.Layout.{read_told, write_told};
 
-use std::fmt;
+use network::Refusal;
+use thiserror::Error;
 
 // Why a row of bytes is no sheet. `at` is the bit position of the field at fault, counted from 0.
-#[derive(Clone, Copy, PartialEq, Eq, Debug)]
+#[derive(Clone, Copy, PartialEq, Eq, Debug, Error)]
 pub enum ReadRefusal {
-    // fewer than 2 bytes
+    #[error("a sheet has at least 2 bytes")]
     NoHead,
-    // the number of sites is outside 2 to 64
+    #[error("a network has 2 to 64 sites")]
     SitesOutside,
-    // there are more than 256 arcs
+    #[error("a network has at most 256 arcs")]
     TooManyArcs,
-    // the number of bytes is not that of so many arcs
+    #[error("a sheet has 2 bytes and 8 for each arc")]
     WrongByteCount,
-    // an arc begins or ends at a number that is no site's
+    #[error("an arc begins or ends at a site that is not there")]
     NoSuchSite { at: u32 },
-    // an arc ends where it begins; `at` is the position of the end
+    // `at` is the position of the end
+    #[error("an arc ends at the site where it begins")]
     SameSite { at: u32 },
 }
 
-impl ReadRefusal {
-    // The number of the check that failed.
-    pub fn number(self) -> u32
-        ensures { result ≡ (read_told self).number }
-    {
+impl Refusal for ReadRefusal {
+    ghost told = { read_told };
+
+    fn number(&self) -> u32 {
         match self {
             ReadRefusal::NoHead => 1,
             ReadRefusal::SitesOutside => 2,
@@ -35,57 +36,31 @@ impl ReadRefusal {
             ReadRefusal::SameSite { .. } => 6,
         }
     }
+}
 
+impl ReadRefusal {
     // The bit position of the field at fault, where there is one.
     pub fn position(self) -> Option<u32>
         ensures { result ≡ (read_told self).position }
     {
         match self {
-            ReadRefusal::NoSuchSite { at } => Some(at),
-            ReadRefusal::SameSite { at } => Some(at),
+            ReadRefusal::NoSuchSite { at } | ReadRefusal::SameSite { at } => Some(at),
             _ => None,
         }
     }
 }
 
-impl fmt::Display for ReadRefusal {
-    fn fmt<W: fmt::Write>(&self, f: &mut fmt::Formatter<W>) -> fmt::Result {
-        match self {
-            ReadRefusal::NoHead => write!(f, "a sheet has at least 2 bytes"),
-            ReadRefusal::SitesOutside => write!(f, "a network has 2 to 64 sites"),
-            ReadRefusal::TooManyArcs => write!(f, "a network has at most 256 arcs"),
-            ReadRefusal::WrongByteCount => write!(f, "a sheet has 2 bytes and 8 for each arc"),
-            ReadRefusal::NoSuchSite { .. } => write!(
-                f,
-                "an arc begins or ends at a site that is not there"
-            ),
-            ReadRefusal::SameSite { .. } => write!(f, "an arc ends at the site where it begins"),
-        }
-    }
-}
-
-// Why a sheet is not written.
-#[derive(Clone, Copy, PartialEq, Eq, Debug)]
+// Why a sheet is not written. The refusal has the number of the check that failed.
+#[derive(Clone, Copy, PartialEq, Eq, Debug, Error)]
 pub enum WriteRefusal {
-    // the buffer is shorter than the sheet
-    BufferTooShort,
+    #[error("the buffer is shorter than the sheet")]
+    BufferTooShort = 7,
 }
 
-impl WriteRefusal {
-    // The number of the check that failed.
-    pub fn number(self) -> u32
-        ensures { result ≡ (write_told self).number }
-    {
-        match self {
-            WriteRefusal::BufferTooShort => 7,
-        }
-    }
-}
+impl Refusal for WriteRefusal {
+    ghost told = { write_told };
 
-impl fmt::Display for WriteRefusal {
-    fn fmt<W: fmt::Write>(&self, f: &mut fmt::Formatter<W>) -> fmt::Result {
-        match self {
-            WriteRefusal::BufferTooShort => write!(f, "the buffer is shorter than the sheet"),
-        }
+    fn number(&self) -> u32 {
+        *self as u32
     }
 }

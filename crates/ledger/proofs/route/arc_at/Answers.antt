@@ -1,16 +1,15 @@
 -- The arc of a number, or that of figures 0 past the last.
-use Rattle.std.proofs.Common.{sym}
+use Rattle.std.proofs.Common.{◌≡◌, ℕ, Option, Some, None, sym, ◌∙◌, rules}
+use Rattle.std.specs.Option.{UnwrapsOrElse}
 use Rattle.std.proofs.lemmas.List.{get_or_past}
-use Rattle.network.specs.Net.{no_arc}
+use Rattle.network.specs.declared.arc.Arc.{Arc}
+use Rattle.network.specs.Net.{Net, arc_at, arc_of, no_arc}
 use Rattle.network.specs.ListsLemmas.{nth_none, nth_some}
 use Rattle.ledger.proofs.route.arc_at.Goals as goal
 
-pub returns-in-Some : goal.returns-in-Some
-returns-in-Some g c =
-    let net = g.N.Network.meaning c.args.network.now in
-    sym (nth_some net.arcs c.args.number c.in-Some.arc no_arc c.in-Some.ensures).1
+found_or_none : (net : Net) (i : ℕ) (IsBlank : Arc → Type 0) (found : Option Arc) (arc : Arc) → found ≡ arc_of net i → ((a : Arc) → IsBlank a → a ≡ no_arc) → UnwrapsOrElse found IsBlank arc → arc ≡ arc_at net i
+found_or_none net i IsBlank (Some there) arc e blank is = is ∙ sym (nth_some net.arcs i there no_arc e).1
+found_or_none net i IsBlank None arc e blank is = blank arc is ∙ sym (get_or_past net.arcs i no_arc (nth_none net.arcs i e))
 
-pub returns-in-None : goal.returns-in-None
-returns-in-None g c =
-    let net = g.N.Network.meaning c.args.network.now in
-    sym (get_or_past net.arcs c.args.number no_arc (nth_none net.arcs c.args.number c.in-None.ensures))
+pub returns : goal.returns
+returns g c = found_or_none (g.N.Network.meaning c.args.network.now) c.args.number _ c.arc.result c.unwrap_or_default.result c.arc.ensures (λ a p. search rules) c.unwrap_or_default.ensures

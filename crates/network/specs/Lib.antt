@@ -1,6 +1,7 @@
 pub mod Lists
 pub mod Checks
 pub mod Net
+pub mod Numbers
 pub mod Limits
 pub mod Ring
 pub mod RingPlans

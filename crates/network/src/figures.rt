@@ -19,9 +19,7 @@ pub struct Figures {
 pub enum RingRefusal {
     #[error("a ring plan has 3 to 64 sites")]
     SitesOutside = 8,
-    #[error(
-        "a figure is over its limit (weight and delay 4095, jitter and charge 1023, capacity 255)"
-    )]
+    #[error("a figure is over its limit (weight and delay 4095, jitter and charge 1023, capacity 255)")]
     FigureOverLimit = 9,
 }
 

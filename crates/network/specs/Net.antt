@@ -1,5 +1,5 @@
 -- What a network means: how many sites it has, and its arcs in the order of their numbers.
-use Rattle.std.specs.Prelude.{◌≡◌, ℕ, ◌<◌, ◌≤◌, List, length, Some, None, Option, slice_index_or, slice_set}
+use Rattle.std.specs.Prelude.{◌≡◌, ℕ, ◌<◌, ◌≤◌, List, length, Option, slice_index_or}
 use Rattle.std.specs.List.{AllByRecursion, slice_get}
 use Rattle.network.specs.declared.arc.Arc.{Arc}
 
@@ -23,11 +23,6 @@ no_arc = record { from = 0; to = 0; weight = 0; delay = 0; jitter = 0; charge = 
 -- the arc of a number that has one
 abbrev pub arc_at : Net → ℕ → Arc
 arc_at net i = slice_index_or net.arcs i no_arc
-
--- a table with an arc entered at a place, or as it was where there is none
-abbrev pub entered : Option Arc → ℕ → List Arc → List Arc
-entered None i table = table
-entered (Some arc) i table = slice_set table i arc
 
 -- an arc with another capacity
 abbrev pub with_capacity : ℕ → Arc → Arc

@@ -4,7 +4,8 @@ ghost use Rattle.network.specs.Limits.{net_fits};
 
 use super::arc::Arc;
 
-// A network's sites and arcs in plain records; the arcs are the first `count` of the table.
+// A network's sites and arcs in plain records; the arcs are the first `count` of the table. The count stands beside a table of
+// fixed size, since a copy is `Copy` and takes no heap memory.
 #[derive(Clone, Copy)]
 pub struct NetworkCopy {
     pub(super) sites: u8,

@@ -1,27 +1,21 @@
--- Each turn enters one arc more, and after the last all are entered.
-use Rattle.std.proofs.Common.{◌≡◌, ◌<◌, length, get_or, refl, ap, ◌∙◌, arith, take_all}
-use Rattle.std.proofs.lemmas.Option.{slice_get-get_or}
-use Rattle.network.specs.Net.{entered, no_arc}
-use Rattle.network.specs.ListsLemmas.{enter_at}
+-- Each turn enters one arc more, and the last enters the last.
+use Rattle.std.proofs.Common.{◌<◌, ◌≤◌, ℕ, length, take, refl, sym, ◌∙◌, arith, length-take-le}
+use Rattle.network.specs.Net.{Net, no_arc}
+use Rattle.network.specs.ListsLemmas.{enter_at, nth_none, nth_some}
 use Rattle.network.proofs.listing.list_arcs.Goals as goal
+use Rattle.network.proofs.listing.list_arcs.Goals.{in-Some, in_default}
 
 pub loop-number-preserved : goal.loop-number-preserved
 loop-number-preserved g c =
-    let net = g.N.Network.meaning c.args.network.now in
-    let i = c.loop-number.number in
+    let net : Net = g.N.Network.meaning c.args.network.now in
+    let i : ℕ = c.loop-number.number in
     let few = (g.met.N.Network.formed c.args.network.now).few_arcs in
-    let room : i < length c.args.table.now = omega (arith, few, c.told-table, c.arcs-count.ensures) in
-    let there : i < length net.arcs = omega (arith, c.arcs-count.ensures) in
-    let found = slice_get-get_or net.arcs i no_arc there in
-    let one = c.enter_arc.ensures ∙ ap (λ o. entered o i c.loop-number.table) found in
-    one ∙ enter_at net.arcs c.args.table.now c.loop-number.table i i (get_or net.arcs i no_arc) no_arc c.loop-number.invariant refl there room refl
-
-pub enter_arc-requires : goal.enter_arc-requires
-enter_arc-requires g c = omega (arith, (g.met.N.Network.formed c.args.network.now).few_arcs, c.arcs-count.ensures)
-
-pub returns : goal.returns
-returns g c =
-    let net = g.N.Network.meaning c.args.network.now in
-    let count : c.loop-number.number ≡ length net.arcs = omega (arith, c.arcs-count.ensures) in
-    let whole = take_all (length net.arcs) net.arcs (omega arith) in
-    record { count = c.from.ensures ∙ c.arcs-count.ensures; table = rw whole at (rw count at c.loop-number.invariant) }
+    let size = length-take-le c.from-count.result c.args.table.now (omega (arith, few, c.told-table, c.arcs.ensures, c.from-count.ensures)) in
+    let room = c.loop-number-test.true in
+    let there : i < length net.arcs = omega (arith, size, c.arcs.ensures, c.from-count.ensures) in
+    elim c.match-arc.branch [
+      | in-Some w ↦
+          let found = nth_some net.arcs i w.in-Some.arc no_arc (sym w.in-Some.is ∙ c.arc.ensures) in
+          w.place-items-is ∙ enter_at net.arcs (take c.from-count.result c.args.table.now) c.loop-number.place-items i i w.in-Some.arc no_arc c.loop-number.invariant refl there room found.1
+      | in_default w ↦ let past : length net.arcs ≤ i = nth_none net.arcs i (sym w.in_default.is ∙ c.arc.ensures) in absurd (omega (arith, past, there))
+    ]

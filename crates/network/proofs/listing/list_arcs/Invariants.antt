@@ -4,4 +4,4 @@ use Rattle.network.proofs.listing.list_arcs.Given as goal
 
 abbrev pub invariant-loop-number : goal.invariant-loop-number
 invariant-loop-number g l =
-    l.table ≡ take l.number (g.N.Network.meaning l.network).arcs ++ drop l.number l.initial.table
+    l.place-items ≡ take l.number (g.N.Network.meaning l.network).arcs ++ drop l.number l.initial.place-items

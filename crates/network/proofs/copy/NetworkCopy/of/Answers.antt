@@ -1,7 +1,7 @@
 -- A copy has the sites and arcs of its network.
 use Rattle.std.proofs.Common.{◌≡◌, true, length, take, sym, refl, ap, ◌∙◌, arith}
 use Rattle.network.specs.Limits.{net_fits}
-use Rattle.network.proofs.Copied.{listed, same_fits, same_net}
+use Rattle.network.proofs.Copied.{listed, same_fits}
 use Rattle.network.proofs.copy.NetworkCopy.of.Goals as goal
 
 pub invariant_of-result : goal.invariant_of-result
@@ -16,10 +16,3 @@ invariant_of-result g c =
       counted = ap length arcs ∙ sym c.list_arcs-count.ensures.count;
       limits = let base : net_fits (record { sites = net.sites; arcs = take count table }) ≡ true = same_fits net net.sites (take count table) wf refl arcs in cc;
     }
-
-pub returns : goal.returns
-returns g c =
-    let net = g.N.Network.meaning c.args.network.now in
-    let count = c.list_arcs-count.result in
-    let table = c.list_arcs-count.new.table in
-    same_net net _ (take count table) (cc) (listed net table _ count c.list_arcs-count.ensures.count c.list_arcs-count.ensures.table)

@@ -4,7 +4,8 @@ use length::{Kind, RowRefusal};
 use network::Arc;
 use routes::{Enquiry, EnquiryRefusal, Found, Line, RouteRow};
 
-// The memory that an enquiry works in: the five tables, the notebook and the list.
+// The memory that an enquiry works in: the five tables, the notebook and the list. The five are owned here and lent in
+// `LentTables`; one struct for both would take a type parameter for each kind of field and read no plainer.
 #[derive(Drop)]
 pub struct Memory<L> {
     pub length: Vec<Option<L>>,

@@ -34,7 +34,8 @@ pub trait Client<N, K: Kind> {
         ensures { hears self.old reply self.new };
 }
 
-// Enquires in lent memory, table by table.
+// Enquires in lent memory, slice by slice: what a `Vec` holds once a slice of it went through a struct is not known to a proof,
+// so the struct is made here and not where the slices are taken.
 fn enquire_with<N: Network, K: Kind>(
     ledger: &Ledger<N>,
     enquiry: &Enquiry<K>,

@@ -16,17 +16,6 @@ loop-turn-preserved g c =
     c.loop-turn._turn c.loop-turn.ledger c.respond-reply.new.ledger (record { request = c.in-Some.request; reply = c.respond-reply.result }) c.loop-turn.invariant
     (record { answer = did.answer; tally = did.tally; below = did.below; returned = did.returned }) c.in-Some.ensures c.told.ensures
 
-pub told-requires : goal.told-requires
-told-requires g c =
-    record {
-      before = c.loop-turn.client;
-      request = c.in-Some.request;
-      asked = c.in-Some.ensures;
-      net = g.N.Network.meaning (network_below c.loop-turn.ledger);
-      tally = ledger_tally c.loop-turn.ledger;
-      answered = c.respond-reply.ensures.answer;
-    }
-
 pub returns-in_default : goal.returns-in_default
 returns-in_default g c =
     let model = g.K.Kind.model in

@@ -4,4 +4,3 @@ pub mod Pigeons
 pub mod Least
 pub mod Rounds
 pub mod Tries
-pub mod Granted

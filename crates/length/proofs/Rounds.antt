@@ -334,19 +334,9 @@ pub rounds_settled : {L : Type 0} (m : Model L) (width : ℕ) (arcs : List Arc) 
 rounds_settled m width arcs zero t e = refl
 rounds_settled m width arcs (suc k) t e = rw e (rounds_settled m width arcs k t e)
 
--- one round more at the end
-pub rounds_more : {L : Type 0} (m : Model L) (width : ℕ) (arcs : List Arc) (k : ℕ) (t : List (Option L)) → all_tried m width arcs (rounds m width arcs k t) ≡ rounds m width arcs (suc k) t
-rounds_more m width arcs zero t = refl
-rounds_more m width arcs (suc k) t = rounds_more m width arcs k (all_tried m width arcs t)
-
--- rounds in two parts
-pub rounds_add : {L : Type 0} (m : Model L) (width : ℕ) (arcs : List Arc) (k j : ℕ) (t : List (Option L)) → rounds m width arcs (k + j) t ≡ rounds m width arcs j (rounds m width arcs k t)
-rounds_add m width arcs zero j t = rw zero-add
-rounds_add m width arcs (suc k) j t = rw suc-add (rounds_add m width arcs k j (all_tried m width arcs t))
-
--- so many rounds, of which one changed nothing, leave the same table as more rounds
-pub rounds_early : {L : Type 0} (m : Model L) (width : ℕ) (arcs : List Arc) (i k : ℕ) (start t : List (Option L)) → i ≤ k → t ≡ rounds m width arcs i start → all_tried m width arcs t ≡ t
-    → t ≡ rounds m width arcs k start
-rounds_early m width arcs i k start t h e same =
-    let parts : k ≡ i + (k - i) = omega arith in
-    rw (parts, rounds_add m width arcs i (k - i) start, ← e) (sym (rounds_settled m width arcs (k - i) t same))
+-- of the rounds that are left, the next one done
+pub rounds_next : {L : Type 0} (m : Model L) (width : ℕ) (arcs : List Arc) (k i : ℕ) (t u : List (Option L)) → i < k → u ≡ all_tried m width arcs t
+    → rounds m width arcs (k - (i + 1)) u ≡ rounds m width arcs (k - i) t
+rounds_next m width arcs k i t u h e =
+    let one : k - i ≡ suc (k - (i + 1)) = omega arith in
+    rw (one, e)

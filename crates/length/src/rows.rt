@@ -21,14 +21,8 @@ pub fn row_length<N: Network, K: Kind>(
     }
     let mut total = kind.empty_length();
     for number in arcs {
-        match network.arc(*number) {
-            Some(arc) => {
-                total = kind.join(total, kind.arc_length(arc));
-            }
-            None => {
-                return Err(RowRefusal::NoSuchArc);
-            }
-        }
+        let arc = network.arc(*number).ok_or(RowRefusal::NoSuchArc)?;
+        total = kind.join(total, kind.arc_length(arc));
     }
     Ok(total)
 }

@@ -1,16 +1,10 @@
 -- Where an arc is not there, that check failed; each turn the total is the length of one arc more.
-use Rattle.std.proofs.Common.{◌≡◌, ◌<◌, Some, get_or, take, sym, ◌∙◌, arith}
+use Rattle.std.proofs.Common.{◌≡◌, ◌<◌, Some, get_or, take, sym, ◌∙◌}
 use Rattle.std.proofs.lemmas.List.{take_more}
 use Rattle.std.proofs.lemmas.Option.{slice_get_within, get_or_from_slice_get}
 use Rattle.network.specs.Net.{arc_at, arc_count, arc_of, no_arc}
-use Rattle.length.proofs.Walks.{there_push, walk_push, row_no_arc}
+use Rattle.length.proofs.Walks.{there_push, walk_push}
 use Rattle.length.proofs.rows.row_length.Goals as goal
-
-pub returns-in_err-arc : goal.returns-in_err-arc
-returns-in_err-arc g c =
-    let net = g.N.Network.meaning c.args.network.now in
-    let refused = row_no_arc (g.K.Kind.model c.args.kind.now) net c.args.arcs.now c.loop-number.number-index (omega arith) (omega arith) (omega arith) (sym c.in_err-arc.ensures.ok_part ∙ c.arc.ensures) in
-    grind (arith, refused)
 
 pub loop-number-preserved : goal.loop-number-preserved
 loop-number-preserved g c =

@@ -1,11 +1,12 @@
 -- Least totals are least: over all walks, however long.
-use Rattle.std.proofs.Common.{◌≡◌, ℕ, zero, suc, ◌<◌, ◌≤◌, Bool, true, false, cond, not, ◌&&◌, ◌||◌, T, eqb, ltb, ◌⊎◌, List, [], ◌∷◌, map, length, Some, None, Option, sym, refl, ap, ◌∙◌, subst, inl, inr, ⊎_elim, le_of_suc-le-suc, not-suc-le-zero, zero-add, arith}
+use Rattle.std.proofs.Common.{◌≡◌, ℕ, zero, suc, ◌<◌, ◌≤◌, Bool, true, false, cond, not, ◌&&◌, T, eqb, ltb, ◌⊎◌, List, [], ◌∷◌, map, length, Some, None, Option, sym, refl, ap, ◌∙◌, subst, inl, inr, ⊎_elim, le_of_suc-le-suc, not-suc-le-zero, zero-add, arith}
 use borrow.Author.Tests.{clash}
 use lib.ListN.{length-map}
 use Rattle.std.specs.List.{range_with_len}
 use Rattle.std.specs.Option.{option_map}
 use Rattle.std.proofs.ByRecursion.{All-get_or}
-use Rattle.std.proofs.lemmas.Bool.{ltb-true, lt-ltb, eqb-true, eq-eqb, and_parts, and_from, or_cases}
+use Rattle.std.proofs.lemmas.Bool.{ltb-true, lt-ltb, eqb-true, eq-eqb, and_parts, and_from, or_cases, cond_both, cases_cond}
+use mir.Facts.{or_yes}
 use Rattle.network.specs.ListsLemmas.{some_same, none_some}
 use Rattle.network.specs.Lists.{In, all_of, among, distinct}
 use Rattle.network.specs.Net.{Net, WellFormed, ArcFits, arc_count, arc_at, no_arc}
@@ -14,7 +15,7 @@ use Rattle.length.specs.Walks.{usable, follow, sites_along, walk_length}
 use Rattle.length.specs.Least.{arcs_from, shorter, shortest, least_within, least_total, IsLeast}
 use Rattle.length.proofs.Walks.{arc_valid_at, there, walk_valid}
 use Rattle.length.proofs.Members.{in_map, from_map, in_kept, from_kept, in_counting}
-use Rattle.length.proofs.Pigeons.{few}
+use Rattle.length.proofs.Members.{distinct_few}
 
 pub true_T : (b : Bool) → b ≡ true → T b
 true_T b e = rw e tt
@@ -22,14 +23,6 @@ true_T b e = rw e tt
 pub T_true : (b : Bool) → T b → b ≡ true
 T_true true t = refl
 T_true false t = absurd t
-
-either_same : (b : Bool) → T (b || b) → T b
-either_same true t = tt
-either_same false t = t
-
-other_one : (a b : Bool) → a ≡ false → T (a || b) → T b
-other_one true b e t = absurd (clash (sym e))
-other_one false b e t = t
 
 module _ {L : Type 0} (m : Model L) where
   -- a missing length counts as valid, and is at most nothing
@@ -43,34 +36,24 @@ module _ {L : Type 0} (m : Model L) where
 
 module _ {L : Type 0} (m : Model L) (law : Lawful m) where
   pub no_longer_refl : (a : L) → T (m.valid a) → T (m.no_longer a a)
-  no_longer_refl a v = either_same _ (law.total a a v v)
-
-  chosen_valid : (b : Bool) (x y : L) → T (m.valid x) → T (m.valid y) → T (m.valid (cond b x y))
-  chosen_valid true x y vx vy = vx
-  chosen_valid false x y vx vy = vy
+  no_longer_refl a v = ⊎_elim (λ t. t) (λ t. t) (or_yes _ _ (law.total a a v v))
 
   shorter_valid : (a b : Option L) → ValidO m a → ValidO m b → ValidO m (shorter m a b)
   shorter_valid None b va vb = vb
   shorter_valid (Some x) None va vb = va
-  shorter_valid (Some x) (Some y) va vb = chosen_valid (m.no_longer x y) x y va vb
-
-  chosen_left : (x y z : L) (b : Bool) → m.no_longer x y ≡ b → T (m.valid x) → T (m.valid y) → T (m.valid z) → T (m.no_longer x z) → T (m.no_longer (cond b x y) z)
-  chosen_left x y z true e vx vy vz h = h
-  chosen_left x y z false e vx vy vz h = law.trans y x z vy vx vz (other_one _ _ e (law.total x y vx vy)) h
-
-  chosen_right : (x y z : L) (b : Bool) → m.no_longer x y ≡ b → T (m.valid x) → T (m.valid y) → T (m.valid z) → T (m.no_longer y z) → T (m.no_longer (cond b x y) z)
-  chosen_right x y z true e vx vy vz h = law.trans x y z vx vy vz (true_T _ e) h
-  chosen_right x y z false e vx vy vz h = h
+  shorter_valid (Some x) (Some y) va vb = cond_both (m.no_longer x y) x y (λ v. T (m.valid v)) (λ e. va) (λ e. vb)
 
   pub shorter_left : (a b : Option L) (z : L) → ValidO m a → ValidO m b → T (m.valid z) → AtMost m a z → AtMost m (shorter m a b) z
   shorter_left None b z va vb vz h = absurd h
   shorter_left (Some x) None z va vb vz h = h
-  shorter_left (Some x) (Some y) z va vb vz h = chosen_left x y z (m.no_longer x y) refl va vb vz h
+  shorter_left (Some x) (Some y) z va vb vz h =
+      cond_both (m.no_longer x y) x y (λ v. T (m.no_longer v z)) (λ e. h) (λ e. law.trans y x z vb va vz (rw e at (law.total x y va vb)) h)
 
   pub shorter_right : (a b : Option L) (z : L) → ValidO m a → ValidO m b → T (m.valid z) → AtMost m b z → AtMost m (shorter m a b) z
   shorter_right None b z va vb vz h = h
   shorter_right (Some x) None z va vb vz h = absurd h
-  shorter_right (Some x) (Some y) z va vb vz h = chosen_right x y z (m.no_longer x y) refl va vb vz h
+  shorter_right (Some x) (Some y) z va vb vz h =
+      cond_both (m.no_longer x y) x y (λ v. T (m.no_longer v z)) (λ e. law.trans x y z va vb vz (true_T _ e) h) (λ e. h)
 
   shortest_valid : (xs : List (Option L)) → ((e : Option L) → In e xs → ValidO m e) → ValidO m (shortest m xs)
   shortest_valid [] h = tt
@@ -83,14 +66,10 @@ module _ {L : Type 0} (m : Model L) (law : Lawful m) where
   shortest_at_most (x ∷ xs) e z h vz (inr i) a =
       shorter_right x (shortest m xs) z (h x (inl refl)) (shortest_valid xs (λ e j. h e (inr j))) vz (shortest_at_most xs e z (λ e j. h e (inr j)) vz i a)
 
-  chosen_one : (b : Bool) (x y z : L) → cond b x y ≡ z → (x ≡ z) ⊎ (y ≡ z)
-  chosen_one true x y z e = inl e
-  chosen_one false x y z e = inr e
-
   pub shorter_one : (a b : Option L) (z : L) → shorter m a b ≡ Some z → (a ≡ Some z) ⊎ (b ≡ Some z)
   shorter_one None b z e = inr e
   shorter_one (Some x) None z e = inl e
-  shorter_one (Some x) (Some y) z e = ⊎_elim (λ q. inl (ap Some q)) (λ q. inr (ap Some q)) (chosen_one (m.no_longer x y) x y z (some_same e))
+  shorter_one (Some x) (Some y) z e = ⊎_elim (λ q. inl (ap Some (sym q))) (λ q. inr (ap Some (sym q))) (cases_cond (m.no_longer x y) x y z (sym (some_same e)))
 
   shortest_one : (xs : List (Option L)) (z : L) → shortest m xs ≡ Some z → In (Some z) xs
   shortest_one [] z e = absurd (none_some e)
@@ -138,11 +117,7 @@ module _ {L : Type 0} (m : Model L) (law : Lawful m) where
 
     here_valid : (s : ℕ) → ValidO m (here s)
     unfolding here
-    here_valid s = go (eqb s destination)
-      where
-        go : (b : Bool) → ValidO m (cond b (Some m.empty) None)
-        go true = law.empty_valid
-        go false = tt
+    here_valid s = cond_both (eqb s destination) (Some m.empty) None (ValidO m) (λ e. law.empty_valid) (λ e. tt)
 
     here_least : (s : ℕ) → Way s [] → AtMost m (here s) m.empty
     unfolding here
@@ -303,7 +278,7 @@ module _ {L : Type 0} (m : Model L) (law : Lawful m) where
     few_arcs : (s : ℕ) (v : List ℕ) → s < net.sites → Simple s v → length v ≤ net.sites
     unfolding Simple
     few_arcs s v h p =
-        let n = few net.sites (sites_along net s v) p.1 (sites_below s v h p.0) in
+        let n = distinct_few net.sites (sites_along net s v) p.1 (sites_below s v h p.0) in
         let l : length (map (λ i. (arc_at net i).to) v) ≡ length v = length-map v (λ i. (arc_at net i).to) in
         omega arith
 

@@ -1,5 +1,5 @@
 -- Where an arc is not there, that check failed; each turn the total is the length of one arc more.
-use Rattle.std.proofs.Common.{◌≡◌, ◌<◌, Some, get_or, take, sym, ◌∙◌}
+use Rattle.std.proofs.Common.{◌≡◌, ◌<◌, Some, get_or, take}
 use Rattle.std.proofs.lemmas.List.{take_more}
 use Rattle.std.proofs.lemmas.Option.{slice_get_within, get_or_from_slice_get}
 use Rattle.network.specs.Net.{arc_at, arc_count, arc_of, no_arc}
@@ -15,7 +15,7 @@ loop-number-preserved g c =
     let i = c.loop-number.number-index in
     let number = get_or arcs i 0 in
     let before = c.loop-number.invariant.there in
-    let found : arc_of net number ≡ Some c.in_ok-arc.arc = sym c.arc.ensures ∙ c.in_ok-arc.ensures.ok_part in
+    let found : arc_of net number ≡ Some c.in_ok-arc.arc = cc (c.arc.ensures, c.in_ok-arc.ensures.ok_part) in
     let here : number < arc_count net = slice_get_within net.arcs number c.in_ok-arc.arc found in
     let is : arc_at net number ≡ c.in_ok-arc.arc = get_or_from_slice_get net.arcs number c.in_ok-arc.arc no_arc found in
     let more = take_more arcs i 0 c.loop-number-test.true in

@@ -7,7 +7,6 @@ use Rattle.std.specs.Option.{option_map}
 use Rattle.std.proofs.ByRecursion.{All-get_or}
 use Rattle.std.proofs.lemmas.Bool.{ltb-true, lt-ltb, eqb-true, eq-eqb, and_parts, and_from, or_cases, cond_both, cases_cond}
 use mir.Facts.{or_yes}
-use Rattle.network.specs.ListsLemmas.{some_same, none_some}
 use Rattle.network.specs.Lists.{In, all_of, among, distinct}
 use Rattle.network.specs.Net.{Net, WellFormed, ArcFits, arc_count, arc_at, no_arc}
 use Rattle.length.specs.Model.{Model, Lawful}
@@ -69,15 +68,15 @@ module _ {L : Type 0} (m : Model L) (law : Lawful m) where
   pub shorter_one : (a b : Option L) (z : L) → shorter m a b ≡ Some z → (a ≡ Some z) ⊎ (b ≡ Some z)
   shorter_one None b z e = inr e
   shorter_one (Some x) None z e = inl e
-  shorter_one (Some x) (Some y) z e = ⊎_elim (λ q. inl (ap Some (sym q))) (λ q. inr (ap Some (sym q))) (cases_cond (m.no_longer x y) x y z (sym (some_same e)))
+  shorter_one (Some x) (Some y) z e = ⊎_elim (λ q. inl (ap Some (sym q))) (λ q. inr (ap Some (sym q))) (cases_cond (m.no_longer x y) x y z (cc))
 
   shortest_one : (xs : List (Option L)) (z : L) → shortest m xs ≡ Some z → In (Some z) xs
-  shortest_one [] z e = absurd (none_some e)
+  shortest_one [] z e = absurd (cc)
   shortest_one (x ∷ xs) z e = ⊎_elim (λ q. inl (sym q)) (λ q. inr (shortest_one xs z q)) (shorter_one x (shortest m xs) z e)
 
   pub mapped_some : (f : L → L) (o : Option L) (z : L) → Some z ≡ option_map f o → (y : L) × (o ≡ Some y) × (z ≡ f y)
-  mapped_some f None z e = absurd (none_some (sym e))
-  mapped_some f (Some y) z e = (y, refl, some_same e)
+  mapped_some f None z e = absurd (cc)
+  mapped_some f (Some y) z e = (y, refl, cc)
 
   module _ (net : Net) (wf : WellFormed net) (width destination : ℕ) where
     abbrev pub Way : ℕ → List ℕ → Type 0
@@ -89,7 +88,7 @@ module _ {L : Type 0} (m : Model L) (law : Lawful m) where
 
     pub split : (b : Bool) (o : Option ℕ) → cond b o None ≡ Some destination → (b ≡ true) × (o ≡ Some destination)
     split true o e = (refl, e)
-    split false o e = absurd (none_some e)
+    split false o e = absurd (cc)
 
     pub rest_way : (s i : ℕ) (is : List ℕ) → Way s (i ∷ is) → (first_test s i ≡ true) × Way (arc_at net i).to is
     rest_way s i is e = split _ _ e
@@ -121,15 +120,15 @@ module _ {L : Type 0} (m : Model L) (law : Lawful m) where
 
     here_least : (s : ℕ) → Way s [] → AtMost m (here s) m.empty
     unfolding here
-    here_least s e = rw (eq-eqb s destination (some_same e)) (no_longer_refl m.empty law.empty_valid)
+    here_least s e = rw (eq-eqb s destination (cc)) (no_longer_refl m.empty law.empty_valid)
 
     here_way : (s : ℕ) (x : L) → here s ≡ Some x → Way s [] × (m.empty ≡ x)
     unfolding here
     here_way s x e = go (eqb s destination) refl e
       where
         go : (b : Bool) → eqb s destination ≡ b → cond b (Some m.empty) None ≡ Some x → (follow net width s [] ≡ Some destination) × (m.empty ≡ x)
-        go true q e = (ap Some (eqb-true s destination q), some_same e)
-        go false q e = absurd (none_some e)
+        go true q e = (ap Some (eqb-true s destination q), cc)
+        go false q e = absurd (cc)
 
     -- what follows a first arc
     after : ℕ → ℕ → Option L

@@ -2,6 +2,7 @@
 use Rattle.std.proofs.Common.{◌≡◌, ℕ, zero, suc, ◌<◌, ◌≤◌, Bool, true, false, cond, not, ◌&&◌, T, eqb, ltb, ◌⊎◌, List, [], ◌∷◌, map, length, Some, None, Option, sym, refl, ap, ◌∙◌, subst, inl, inr, ⊎_elim, le_of_suc-le-suc, not-suc-le-zero, zero-add, arith}
 use borrow.Author.Tests.{clash}
 use lib.ListN.{length-map}
+use Rattle.std.specs.Bool.{passes}
 use Rattle.std.specs.List.{range_with_len}
 use Rattle.std.specs.Option.{option_map}
 use Rattle.std.proofs.ByRecursion.{All-get_or}
@@ -52,7 +53,7 @@ module _ {L : Type 0} (m : Model L) (law : Lawful m) where
   shorter_right None b z va vb vz h = h
   shorter_right (Some x) None z va vb vz h = absurd h
   shorter_right (Some x) (Some y) z va vb vz h =
-      cond_both (m.no_longer x y) x y (λ v. T (m.no_longer v z)) (λ e. law.trans x y z va vb vz (true_T _ e) h) (λ e. h)
+      cond_both (m.no_longer x y) x y (λ v. T (m.no_longer v z)) (λ e. law.trans x y z va vb vz (passes _ e) h) (λ e. h)
 
   shortest_valid : (xs : List (Option L)) → ((e : Option L) → In e xs → ValidO m e) → ValidO m (shortest m xs)
   shortest_valid [] h = tt
@@ -103,7 +104,7 @@ module _ {L : Type 0} (m : Model L) (law : Lawful m) where
     walk_there s [] e = tt
     walk_there s (i ∷ is) e =
         let r = rest_way s i is e in
-        true_T _ (and_from _ _ (lt-ltb i (arc_count net) (arc_there s i r.0)) (T_true _ (walk_there (arc_at net i).to is r.1)))
+        passes _ (and_from _ _ (lt-ltb i (arc_count net) (arc_there s i r.0)) (T_true _ (walk_there (arc_at net i).to is r.1)))
 
     pub arc_ok : (s i : ℕ) → first_test s i ≡ true → T (m.valid (m.arc (arc_at net i)))
     arc_ok s i t = arc_valid_at m law net wf i (arc_there s i t)

@@ -9,8 +9,8 @@ use super::kind::Kind;
 use super::refusals::LeastTotalsRefusal;
 use network::{Arc, Network, list_arcs};
 
-// A round of tries: the arcs to try, all of a network of so many sites, the width that an arc must have room for, and the
-// kind of length.
+// What a round of tries goes by: the kind of length, the width that an arc must have room for, how many sites there are, and
+// the arcs, which begin and end at these sites.
 #[derive(Drop)]
 struct Round<'a, K> {
     kind: &'a K,
@@ -108,6 +108,7 @@ pub fn least_totals<N: Network, K: Kind>(
     if table.len() < sites {
         return Err(LeastTotalsRefusal::TableTooShort);
     }
+    // Fixed memory, for as many arcs as a network may have.
     let mut arcs = [Arc::default(); 256];
     let count = list_arcs(network, &mut arcs);
     let round = Round {

@@ -1,12 +1,13 @@
 -- Least totals are least: over all walks, however long.
-use Rattle.std.proofs.Common.{◌≡◌, ℕ, zero, suc, ◌<◌, ◌≤◌, Bool, true, false, cond, not, ◌&&◌, ◌||◌, T, eqb, ltb, ◌⊎◌, List, [], ◌∷◌, map, length, Some, None, Option, sym, refl, ap, ◌∙◌, subst, inl, inr, ⊎_elim, le_of_suc-le-suc, not-suc-le-zero, zero-add, arith}
+use Rattle.std.proofs.Common.{◌≡◌, ℕ, zero, suc, ◌<◌, ◌≤◌, Bool, true, false, cond, not, ◌&&◌, T, eqb, ltb, ◌⊎◌, List, [], ◌∷◌, map, length, Some, None, Option, sym, refl, ap, ◌∙◌, subst, inl, inr, ⊎_elim, le_of_suc-le-suc, not-suc-le-zero, zero-add, arith}
 use borrow.Author.Tests.{clash}
 use lib.ListN.{length-map}
+use Rattle.std.specs.Bool.{passes}
 use Rattle.std.specs.List.{range_with_len}
 use Rattle.std.specs.Option.{option_map}
 use Rattle.std.proofs.ByRecursion.{All-get_or}
-use Rattle.std.proofs.lemmas.Bool.{ltb-true, lt-ltb, eqb-true, eq-eqb, and_parts, and_from, or_cases}
-use Rattle.network.specs.ListsLemmas.{some_same, none_some}
+use Rattle.std.proofs.lemmas.Bool.{ltb-true, lt-ltb, eqb-true, eq-eqb, and_parts, and_from, or_cases, cond_both, cases_cond}
+use mir.Facts.{or_yes}
 use Rattle.network.specs.Lists.{In, all_of, among, distinct}
 use Rattle.network.specs.Net.{Net, WellFormed, ArcFits, arc_count, arc_at, no_arc}
 use Rattle.length.specs.Model.{Model, Lawful}
@@ -14,7 +15,7 @@ use Rattle.length.specs.Walks.{usable, follow, sites_along, walk_length}
 use Rattle.length.specs.Least.{arcs_from, shorter, shortest, least_within, least_total, IsLeast}
 use Rattle.length.proofs.Walks.{arc_valid_at, there, walk_valid}
 use Rattle.length.proofs.Members.{in_map, from_map, in_kept, from_kept, in_counting}
-use Rattle.length.proofs.Pigeons.{few}
+use Rattle.length.proofs.Members.{distinct_few}
 
 pub true_T : (b : Bool) → b ≡ true → T b
 true_T b e = rw e tt
@@ -22,14 +23,6 @@ true_T b e = rw e tt
 pub T_true : (b : Bool) → T b → b ≡ true
 T_true true t = refl
 T_true false t = absurd t
-
-either_same : (b : Bool) → T (b || b) → T b
-either_same true t = tt
-either_same false t = t
-
-other_one : (a b : Bool) → a ≡ false → T (a || b) → T b
-other_one true b e t = absurd (clash (sym e))
-other_one false b e t = t
 
 module _ {L : Type 0} (m : Model L) where
   -- a missing length counts as valid, and is at most nothing
@@ -43,34 +36,24 @@ module _ {L : Type 0} (m : Model L) where
 
 module _ {L : Type 0} (m : Model L) (law : Lawful m) where
   pub no_longer_refl : (a : L) → T (m.valid a) → T (m.no_longer a a)
-  no_longer_refl a v = either_same _ (law.total a a v v)
-
-  chosen_valid : (b : Bool) (x y : L) → T (m.valid x) → T (m.valid y) → T (m.valid (cond b x y))
-  chosen_valid true x y vx vy = vx
-  chosen_valid false x y vx vy = vy
+  no_longer_refl a v = ⊎_elim (λ t. t) (λ t. t) (or_yes _ _ (law.total a a v v))
 
   shorter_valid : (a b : Option L) → ValidO m a → ValidO m b → ValidO m (shorter m a b)
   shorter_valid None b va vb = vb
   shorter_valid (Some x) None va vb = va
-  shorter_valid (Some x) (Some y) va vb = chosen_valid (m.no_longer x y) x y va vb
-
-  chosen_left : (x y z : L) (b : Bool) → m.no_longer x y ≡ b → T (m.valid x) → T (m.valid y) → T (m.valid z) → T (m.no_longer x z) → T (m.no_longer (cond b x y) z)
-  chosen_left x y z true e vx vy vz h = h
-  chosen_left x y z false e vx vy vz h = law.trans y x z vy vx vz (other_one _ _ e (law.total x y vx vy)) h
-
-  chosen_right : (x y z : L) (b : Bool) → m.no_longer x y ≡ b → T (m.valid x) → T (m.valid y) → T (m.valid z) → T (m.no_longer y z) → T (m.no_longer (cond b x y) z)
-  chosen_right x y z true e vx vy vz h = law.trans x y z vx vy vz (true_T _ e) h
-  chosen_right x y z false e vx vy vz h = h
+  shorter_valid (Some x) (Some y) va vb = cond_both (m.no_longer x y) x y (λ v. T (m.valid v)) (λ e. va) (λ e. vb)
 
   pub shorter_left : (a b : Option L) (z : L) → ValidO m a → ValidO m b → T (m.valid z) → AtMost m a z → AtMost m (shorter m a b) z
   shorter_left None b z va vb vz h = absurd h
   shorter_left (Some x) None z va vb vz h = h
-  shorter_left (Some x) (Some y) z va vb vz h = chosen_left x y z (m.no_longer x y) refl va vb vz h
+  shorter_left (Some x) (Some y) z va vb vz h =
+      cond_both (m.no_longer x y) x y (λ v. T (m.no_longer v z)) (λ e. h) (λ e. law.trans y x z vb va vz (rw e at (law.total x y va vb)) h)
 
   pub shorter_right : (a b : Option L) (z : L) → ValidO m a → ValidO m b → T (m.valid z) → AtMost m b z → AtMost m (shorter m a b) z
   shorter_right None b z va vb vz h = h
   shorter_right (Some x) None z va vb vz h = absurd h
-  shorter_right (Some x) (Some y) z va vb vz h = chosen_right x y z (m.no_longer x y) refl va vb vz h
+  shorter_right (Some x) (Some y) z va vb vz h =
+      cond_both (m.no_longer x y) x y (λ v. T (m.no_longer v z)) (λ e. law.trans x y z va vb vz (passes _ e) h) (λ e. h)
 
   shortest_valid : (xs : List (Option L)) → ((e : Option L) → In e xs → ValidO m e) → ValidO m (shortest m xs)
   shortest_valid [] h = tt
@@ -83,22 +66,18 @@ module _ {L : Type 0} (m : Model L) (law : Lawful m) where
   shortest_at_most (x ∷ xs) e z h vz (inr i) a =
       shorter_right x (shortest m xs) z (h x (inl refl)) (shortest_valid xs (λ e j. h e (inr j))) vz (shortest_at_most xs e z (λ e j. h e (inr j)) vz i a)
 
-  chosen_one : (b : Bool) (x y z : L) → cond b x y ≡ z → (x ≡ z) ⊎ (y ≡ z)
-  chosen_one true x y z e = inl e
-  chosen_one false x y z e = inr e
-
   pub shorter_one : (a b : Option L) (z : L) → shorter m a b ≡ Some z → (a ≡ Some z) ⊎ (b ≡ Some z)
   shorter_one None b z e = inr e
   shorter_one (Some x) None z e = inl e
-  shorter_one (Some x) (Some y) z e = ⊎_elim (λ q. inl (ap Some q)) (λ q. inr (ap Some q)) (chosen_one (m.no_longer x y) x y z (some_same e))
+  shorter_one (Some x) (Some y) z e = ⊎_elim (λ q. inl (ap Some (sym q))) (λ q. inr (ap Some (sym q))) (cases_cond (m.no_longer x y) x y z (cc))
 
   shortest_one : (xs : List (Option L)) (z : L) → shortest m xs ≡ Some z → In (Some z) xs
-  shortest_one [] z e = absurd (none_some e)
+  shortest_one [] z e = absurd (cc)
   shortest_one (x ∷ xs) z e = ⊎_elim (λ q. inl (sym q)) (λ q. inr (shortest_one xs z q)) (shorter_one x (shortest m xs) z e)
 
   pub mapped_some : (f : L → L) (o : Option L) (z : L) → Some z ≡ option_map f o → (y : L) × (o ≡ Some y) × (z ≡ f y)
-  mapped_some f None z e = absurd (none_some (sym e))
-  mapped_some f (Some y) z e = (y, refl, some_same e)
+  mapped_some f None z e = absurd (cc)
+  mapped_some f (Some y) z e = (y, refl, cc)
 
   module _ (net : Net) (wf : WellFormed net) (width destination : ℕ) where
     abbrev pub Way : ℕ → List ℕ → Type 0
@@ -110,7 +89,7 @@ module _ {L : Type 0} (m : Model L) (law : Lawful m) where
 
     pub split : (b : Bool) (o : Option ℕ) → cond b o None ≡ Some destination → (b ≡ true) × (o ≡ Some destination)
     split true o e = (refl, e)
-    split false o e = absurd (none_some e)
+    split false o e = absurd (cc)
 
     pub rest_way : (s i : ℕ) (is : List ℕ) → Way s (i ∷ is) → (first_test s i ≡ true) × Way (arc_at net i).to is
     rest_way s i is e = split _ _ e
@@ -125,7 +104,7 @@ module _ {L : Type 0} (m : Model L) (law : Lawful m) where
     walk_there s [] e = tt
     walk_there s (i ∷ is) e =
         let r = rest_way s i is e in
-        true_T _ (and_from _ _ (lt-ltb i (arc_count net) (arc_there s i r.0)) (T_true _ (walk_there (arc_at net i).to is r.1)))
+        passes _ (and_from _ _ (lt-ltb i (arc_count net) (arc_there s i r.0)) (T_true _ (walk_there (arc_at net i).to is r.1)))
 
     pub arc_ok : (s i : ℕ) → first_test s i ≡ true → T (m.valid (m.arc (arc_at net i)))
     arc_ok s i t = arc_valid_at m law net wf i (arc_there s i t)
@@ -138,23 +117,19 @@ module _ {L : Type 0} (m : Model L) (law : Lawful m) where
 
     here_valid : (s : ℕ) → ValidO m (here s)
     unfolding here
-    here_valid s = go (eqb s destination)
-      where
-        go : (b : Bool) → ValidO m (cond b (Some m.empty) None)
-        go true = law.empty_valid
-        go false = tt
+    here_valid s = cond_both (eqb s destination) (Some m.empty) None (ValidO m) (λ e. law.empty_valid) (λ e. tt)
 
     here_least : (s : ℕ) → Way s [] → AtMost m (here s) m.empty
     unfolding here
-    here_least s e = rw (eq-eqb s destination (some_same e)) (no_longer_refl m.empty law.empty_valid)
+    here_least s e = rw (eq-eqb s destination (cc)) (no_longer_refl m.empty law.empty_valid)
 
     here_way : (s : ℕ) (x : L) → here s ≡ Some x → Way s [] × (m.empty ≡ x)
     unfolding here
     here_way s x e = go (eqb s destination) refl e
       where
         go : (b : Bool) → eqb s destination ≡ b → cond b (Some m.empty) None ≡ Some x → (follow net width s [] ≡ Some destination) × (m.empty ≡ x)
-        go true q e = (ap Some (eqb-true s destination q), some_same e)
-        go false q e = absurd (none_some e)
+        go true q e = (ap Some (eqb-true s destination q), cc)
+        go false q e = absurd (cc)
 
     -- what follows a first arc
     after : ℕ → ℕ → Option L
@@ -303,7 +278,7 @@ module _ {L : Type 0} (m : Model L) (law : Lawful m) where
     few_arcs : (s : ℕ) (v : List ℕ) → s < net.sites → Simple s v → length v ≤ net.sites
     unfolding Simple
     few_arcs s v h p =
-        let n = few net.sites (sites_along net s v) p.1 (sites_below s v h p.0) in
+        let n = distinct_few net.sites (sites_along net s v) p.1 (sites_below s v h p.0) in
         let l : length (map (λ i. (arc_at net i).to) v) ≡ length v = length-map v (λ i. (arc_at net i).to) in
         omega arith
 

@@ -1,12 +1,12 @@
 -- Rounds over all arcs fill a table with the least totals.
-use Rattle.std.proofs.Common.{◌≡◌, ℕ, zero, suc, ◌+◌, ◌-◌, ◌<◌, ◌≤◌, Bool, true, false, cond, T, eqb, ltb, leb, List, [], ◌∷◌, ◌++◌, map, length, get_or, take, drop, set, replicate, Some, None, fold, Option, sym, refl, ap, ◌∙◌, subst, inl, inr, ⊎_elim, le_of_suc-le-suc, not-suc-le-zero, add-zero, add-suc, suc-add, zero-add, arith}
+use Rattle.std.proofs.Common.{◌≡◌, ℕ, zero, suc, ◌+◌, ◌-◌, ◌<◌, ◌≤◌, true, T, eqb, ltb, leb, List, [], ◌∷◌, ◌++◌, length, get_or, take, drop, set, replicate, Some, None, fold, Option, sym, refl, ap, ◌∙◌, subst, inl, inr, ⊎_elim, le_of_suc-le-suc, not-suc-le-zero, add-zero, add-suc, suc-add, zero-add, arith}
 use Rattle.std.specs.List.{range_with_len, AllByRecursion}
 use Rattle.std.specs.Option.{option_map}
 use Rattle.std.proofs.lemmas.List.FromFn.{fill_by_all}
 use Rattle.std.proofs.ByRecursion.{All-get_or}
 use Rattle.std.proofs.lemmas.List.{length-set, length-append, length-replicate, length-drop, drop-set-lt, drop_at, get_or-take, take-append-drop, length-take-le, get_or-set_same, get_or-set_other, get_or_append_left, get_or-replicate}
-use Rattle.std.proofs.lemmas.Bool.{eq-eqb, eqb-true, lt-ltb, and_parts, and_from, cases_eq}
-use Rattle.network.specs.ListsLemmas.{some_same}
+use Rattle.std.proofs.lemmas.Bool.{eq-eqb, eqb-true, lt-ltb, and_parts, and_from, cases_eq, cond_both}
+use Rattle.std.proofs.lemmas.List.Folds.{fold-map}
 use Rattle.network.specs.declared.arc.Arc.{Arc}
 use Rattle.network.specs.Lists.{In}
 use Rattle.network.specs.Net.{Net, WellFormed, ArcFits, arc_count, arc_at, no_arc}
@@ -21,10 +21,6 @@ use Rattle.length.proofs.Least.{ValidO, AtMost, no_longer_refl, shorter_left, sh
 counting_below : (n a k : ℕ) → a + k ≤ n → AllByRecursion (λ i. i < n) (range_with_len a k)
 counting_below n a zero h = tt
 counting_below n a (suc k) h = (omega arith, counting_below n (a + 1) k (omega arith))
-
-folded_map : {A B C : Type 0} (f : B → A → B) (g : C → A) (a : B) (xs : List C) → fold f a (map g xs) ≡ fold (λ b x. f b (g x)) a xs
-folded_map f g a [] = refl
-folded_map f g a (x ∷ xs) = folded_map f g (f a (g x)) xs
 
 -- an entry of a table
 abbrev pub entry : {L : Type 0} → List (Option L) → ℕ → Option L
@@ -72,14 +68,10 @@ module _ {L : Type 0} (m : Model L) (law : Lawful m) (net : Net) (wf : WellForme
   comes_over i test (Some x) r =
       (i ∷ r.0, way_rest m law net wf width destination (arc_at net i).from i r.0 test r.1, ap (m.join (arc_length m net i)) r.2)
 
-  comes_chosen : (s : ℕ) (b : Bool) (x y : L) → Comes s (Some x) → Comes s (Some y) → Comes s (Some (cond b x y))
-  comes_chosen s true x y p q = p
-  comes_chosen s false x y p q = q
-
   comes_shorter : (s : ℕ) (a b : Option L) → Comes s a → Comes s b → Comes s (shorter m a b)
   comes_shorter s None b p q = q
   comes_shorter s (Some x) None p q = p
-  comes_shorter s (Some x) (Some y) p q = comes_chosen s (m.no_longer x y) x y p q
+  comes_shorter s (Some x) (Some y) p q = cond_both (m.no_longer x y) x y (λ v. Comes s (Some v)) (λ e. p) (λ e. q)
 
   -- the test of an arc that begins where it begins
   test_of : (i : ℕ) → i < arc_count net → leb width (arc_at net i).capacity ≡ true → first_test m law net wf width destination (arc_at net i).from i ≡ true
@@ -93,11 +85,7 @@ module _ {L : Type 0} (m : Model L) (law : Lawful m) (net : Net) (wf : WellForme
   tried_so : (P : List (Option L) → Type 0) (i : ℕ) (t : List (Option L))
       → (leb width (arc_at net i).capacity ≡ true → P (set t (arc_at net i).from (entered i t))) → P t → P (try i t)
   unfolding try
-  tried_so P i t yes_room no_room = go (leb width (arc_at net i).capacity) refl
-    where
-      go : (b : Bool) → leb width (arc_at net i).capacity ≡ b → P (cond b (set t (arc_at net i).from (entered i t)) t)
-      go true e = yes_room e
-      go false e = no_room
+  tried_so P i t yes_room no_room = cond_both (leb width (arc_at net i).capacity) (set t (arc_at net i).from (entered i t)) t P yes_room (λ e. no_room)
 
   try_long : (i : ℕ) (t : List (Option L)) → length (try i t) ≡ length t
   try_long i t = tried_so (λ u. length u ≡ length t) i t (λ e. length-set t (arc_at net i).from (entered i t)) refl
@@ -159,7 +147,6 @@ module _ {L : Type 0} (m : Model L) (law : Lawful m) (net : Net) (wf : WellForme
 
   pub record Kept (t u : List (Option L)) : Type 0 where
     pub good : Good u
-    pub long : length u ≡ length t
     pub rest : drop net.sites u ≡ drop net.sites t
     pub keeps : (s : ℕ) (z : L) → T (m.valid z) → AtMost m (entry t s) z → AtMost m (entry u s) z
 
@@ -167,17 +154,16 @@ module _ {L : Type 0} (m : Model L) (law : Lawful m) (net : Net) (wf : WellForme
   kept_more t u v p q =
       record {
         good = q.good;
-        long = q.long ∙ p.long;
         rest = q.rest ∙ p.rest;
         keeps = λ s z vz h. q.keeps s z vz (p.keeps s z vz h);
       }
 
   try_kept : (i : ℕ) (t : List (Option L)) → i < arc_count net → Good t → Kept t (try i t)
   try_kept i t h good =
-      record { good = try_good i t h good; long = try_long i t; rest = try_rest i t h; keeps = try_keeps i t h good }
+      record { good = try_good i t h good; rest = try_rest i t h; keeps = try_keeps i t h good }
 
   same_kept : (t : List (Option L)) → Good t → Kept t t
-  same_kept t good = record { good = good; long = refl; rest = refl; keeps = λ s z vz h. h }
+  same_kept t good = record { good = good; rest = refl; keeps = λ s z vz h. h }
 
   tries_kept : (is : List ℕ) (t : List (Option L)) → AllByRecursion (λ i. i < arc_count net) is → Good t → Kept t (tries is t)
   unfolding tries
@@ -209,7 +195,7 @@ module _ {L : Type 0} (m : Model L) (law : Lawful m) (net : Net) (wf : WellForme
   unfolding tries every try
   round_is t =
       ap (λ arcs. fold (λ u arc. tried m width arc u) t arcs) (fill_by_all (arc_at net) net.arcs (arc_count net) no_arc refl (λ k h. refl))
-      ∙ folded_map (λ u arc. tried m width arc u) (arc_at net) t (range_with_len 0 (arc_count net))
+      ∙ fold-map (λ u arc. tried m width arc u) (arc_at net) t (range_with_len 0 (arc_count net))
 
   -- no walk of at most so many arcs is shorter than the entry where it begins
   Covers : ℕ → List (Option L) → Type 0
@@ -285,7 +271,7 @@ module _ {L : Type 0} (m : Model L) (law : Lawful m) (net : Net) (wf : WellForme
     start_covers : Covers 0 start
     unfolding Covers start blank
     start_covers s [] way h =
-        let e : s ≡ destination = some_same way in
+        let e : s ≡ destination = cc in
         let inside : destination < length blank = omega (arith, blank_long) in
         rw (e, get_or-set_same blank destination (Some m.empty) None inside) (no_longer_refl m law m.empty law.empty_valid)
     start_covers s (i ∷ is) way h = absurd (not-suc-le-zero h)
@@ -334,19 +320,9 @@ pub rounds_settled : {L : Type 0} (m : Model L) (width : ℕ) (arcs : List Arc) 
 rounds_settled m width arcs zero t e = refl
 rounds_settled m width arcs (suc k) t e = rw e (rounds_settled m width arcs k t e)
 
--- one round more at the end
-pub rounds_more : {L : Type 0} (m : Model L) (width : ℕ) (arcs : List Arc) (k : ℕ) (t : List (Option L)) → all_tried m width arcs (rounds m width arcs k t) ≡ rounds m width arcs (suc k) t
-rounds_more m width arcs zero t = refl
-rounds_more m width arcs (suc k) t = rounds_more m width arcs k (all_tried m width arcs t)
-
--- rounds in two parts
-pub rounds_add : {L : Type 0} (m : Model L) (width : ℕ) (arcs : List Arc) (k j : ℕ) (t : List (Option L)) → rounds m width arcs (k + j) t ≡ rounds m width arcs j (rounds m width arcs k t)
-rounds_add m width arcs zero j t = rw zero-add
-rounds_add m width arcs (suc k) j t = rw suc-add (rounds_add m width arcs k j (all_tried m width arcs t))
-
--- so many rounds, of which one changed nothing, leave the same table as more rounds
-pub rounds_early : {L : Type 0} (m : Model L) (width : ℕ) (arcs : List Arc) (i k : ℕ) (start t : List (Option L)) → i ≤ k → t ≡ rounds m width arcs i start → all_tried m width arcs t ≡ t
-    → t ≡ rounds m width arcs k start
-rounds_early m width arcs i k start t h e same =
-    let parts : k ≡ i + (k - i) = omega arith in
-    rw (parts, rounds_add m width arcs i (k - i) start, ← e) (sym (rounds_settled m width arcs (k - i) t same))
+-- of the rounds that are left, the next one done
+pub rounds_next : {L : Type 0} (m : Model L) (width : ℕ) (arcs : List Arc) (k i : ℕ) (t u : List (Option L)) → i < k → u ≡ all_tried m width arcs t
+    → rounds m width arcs (k - (i + 1)) u ≡ rounds m width arcs (k - i) t
+rounds_next m width arcs k i t u h e =
+    let one : k - i ≡ suc (k - (i + 1)) = omega arith in
+    rw (one, e)

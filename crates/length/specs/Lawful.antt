@@ -1,7 +1,8 @@
 -- The standard kinds keep the laws.
-use Rattle.std.specs.Prelude.{◌≡◌, ℕ, ◌≤◌, Bool, true, false, ◌||◌, T, nat_le, refl}
+use Rattle.std.specs.Prelude.{ℕ, ◌≤◌, ◌||◌, T, nat_le}
 use Rattle.std.proofs.Common.{arith, leb→le, le→leb}
-use borrow.Author.Tests.{leb-false, le-leb, clash}
+use Rattle.std.specs.Bool.{passes}
+use Rattle.std.proofs.lemmas.Bool.Decides.{nat_tests}
 use Rattle.network.specs.declared.arc.Arc.{Arc}
 use Rattle.network.specs.Net.{ArcFits}
 use Rattle.length.specs.declared.standard.StandardKind.{StandardKind}
@@ -10,13 +11,8 @@ use Rattle.length.specs.Model.{Lawful}
 use Rattle.length.specs.Standard.{standard, adding, narrowing}
 
 -- of two numbers one is at most the other
-either_test : (x y : Bool) → (x ≡ false → y ≡ true) → T (x || y)
-either_test true y h = tt
-either_test false true h = tt
-either_test false false h = absurd (clash (h refl))
-
 pub leb_total : (a b : ℕ) → T (nat_le a b || nat_le b a)
-leb_total a b = either_test (nat_le a b) (nat_le b a) (λ e. le-leb b a (omega (arith, leb-false a b e)))
+leb_total a b = passes _ (grind (arith, nat_tests))
 
 -- the figure is a number of at most 12 bits
 abbrev pub Small : (Arc → ℕ) → Type 0

@@ -1,6 +1,5 @@
 -- The standard kinds. Weight, delay, jitter, charge and hops add up from 0, and a sum stops at
 -- 4,294,967,295. Width is the least capacity on the way, and the greater width is the shorter.
---
 use Rattle.std.specs.Prelude.{ℕ, ◌+◌, min, nat_le}
 use Rattle.network.specs.declared.arc.Arc.{Arc}
 use Rattle.length.specs.declared.standard.StandardKind.{StandardKind}

@@ -9,6 +9,7 @@ use network::Network;
 
 // The length of a row of arcs in any kind: their lengths joined in order. Refused with 31 where there are fewer than 1 or
 // more than 15, then with 32 where one is no arc of the network. The arcs need not meet.
+#[tactic(auto, using(crate::proofs::Walks::row_no_arc))]
 pub fn row_length<N: Network, K: Kind>(
     network: &N,
     kind: &K,
@@ -21,14 +22,8 @@ pub fn row_length<N: Network, K: Kind>(
     }
     let mut total = kind.empty_length();
     for number in arcs {
-        match network.arc(*number) {
-            Some(arc) => {
-                total = kind.join(total, kind.arc_length(arc));
-            }
-            None => {
-                return Err(RowRefusal::NoSuchArc);
-            }
-        }
+        let arc = network.arc(*number).ok_or(RowRefusal::NoSuchArc)?;
+        total = kind.join(total, kind.arc_length(arc));
     }
     Ok(total)
 }

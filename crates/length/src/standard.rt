@@ -44,7 +44,7 @@ impl Kind for StandardKind {
 
     fn join(&self, a: u32, b: u32) -> u32 {
         match *self {
-            StandardKind::Width => { if a < b { a } else { b } }
+            StandardKind::Width => a.min(b),
             _ => a.saturating_add(b),
         }
     }

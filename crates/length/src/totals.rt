@@ -1,6 +1,6 @@
 // Least totals over all walks to a destination, in any kind of length.
 ghost use Rattle.std.specs.Prelude.{◌≡◌, ◌<◌, ◌≤◌, true, false, ◌++◌, length, drop, replicate, is_ok, None};
-ghost use Rattle.std.specs.List.{AllByRecursion};
+ghost use Rattle.std.specs.List.{All};
 ghost use Rattle.network.specs.Checks.{outcome};
 ghost use Rattle.length.specs.Least.{HoldsLeast, least_totals_answer, least_totals_table, least_totals_told};
 ghost use Rattle.length.specs.Rounds.{EndsWithin, all_tried, first_table, rounds, shortens, tried};
@@ -9,81 +9,75 @@ use super::kind::Kind;
 use super::refusals::LeastTotalsRefusal;
 use network::{Arc, Network, list_arcs};
 
-// Whether a length is shorter than what stands in a table.
-fn is_shorter<K: Kind>(kind: &K, length: K::Length, here: Option<K::Length>) -> bool
-    ensures { result ≡ shortens (K.Kind.model kind.now) here length }
-{
-    match here {
-        Some(old) => !kind.no_longer(old, length),
-        None => true,
-    }
-}
-
-// Tries one arc: enters the way over it at its beginning, where the arc has room and that is shorter. Whether it was entered.
-fn try_arc<K: Kind>(kind: &K, width: u32, arc: Arc, table: &mut [Option<K::Length>]) -> bool
-    requires { EndsWithin (length table.old) arc }
-    ensures table { table.new ≡ tried (K.Kind.model kind.now) width arc table.old }
-    ensures same { result ≡ false → table.new ≡ table.old }
-{
-    if u32::from(arc.capacity) < width {
-        return false;
-    }
-    let there = table[usize::from(arc.to)];
-    let Some(rest) = there else {
-        return false;
-    };
-    let length = kind.join(kind.arc_length(arc), rest);
-    let here = table[usize::from(arc.from)];
-    if is_shorter(kind, length, here) {
-        table[usize::from(arc.from)] = Some(length);
-        return true;
-    }
-    false
-}
-
-// Tries every arc in turn. Whether the table changed.
-fn try_arcs<K: Kind>(kind: &K, width: u32, arcs: &[Arc], table: &mut [Option<K::Length>]) -> bool
-    requires { AllByRecursion (EndsWithin (length table.old)) arcs.now }
-    ensures table { table.new ≡ all_tried (K.Kind.model kind.now) width arcs.now table.old }
-    ensures same { result ≡ false → table.new ≡ table.old }
-{
-    let mut changed = false;
-    for arc in arcs {
-        if try_arc(kind, width, *arc, table) {
-            changed = true;
-        }
-    }
-    changed
-}
-
-// Clears the first places of a table.
-fn clear<L: Copy>(table: &mut [Option<L>], places: usize)
-    requires { places ≤ length table.old }
-    ensures { table.new ≡ replicate places None ++ drop places table.old }
-{
-    for place in 0..places {
-        table[place] = None;
-    }
-}
-
-// Fills the first places of a table with the least totals to a destination: first only the destination is reached, and then
-// every arc is tried, round after round, until nothing changes or there were as many rounds as there are sites.
-fn fill_table<K: Kind>(
-    kind: &K,
-    arcs: &[Arc],
-    sites: usize,
-    destination: usize,
+// What a round of tries goes by: the kind of length, the width that an arc must have room for, how many sites there are, and
+// the arcs, which begin and end at these sites.
+#[derive(Drop)]
+struct Round<'a, K> {
+    kind: &'a K,
     width: u32,
-    table: &mut [Option<K::Length>],
-)
-    requires { (sites ≤ length table.old) × ((destination < sites) × (AllByRecursion (EndsWithin (length table.old)) arcs.now)) }
-    ensures { table.new ≡ rounds (K.Kind.model kind.now) width arcs.now sites (first_table (K.Kind.model kind.now) sites destination table.old) }
-{
-    clear(table, sites);
-    table[destination] = Some(kind.empty_length());
-    for _round in 0..sites {
-        if !try_arcs(kind, width, arcs, table) {
-            return;
+    sites: usize,
+    arcs: &'a [Arc],
+    ghost ends_within: { All (EndsWithin sites) arcs.now },
+}
+
+impl<K: Kind> Round<'_, K> {
+    // Whether a length is shorter than what stands in a table.
+    fn is_shorter(&self, length: K::Length, here: Option<K::Length>) -> bool
+        ensures { result ≡ shortens (K.Kind.model self.now.kind.now) here length }
+    {
+        here.is_none_or(|old| !self.kind.no_longer(old, length))
+    }
+
+    // Tries one arc: enters the way over it at its beginning, where the arc has room and that is shorter. Whether it was
+    // entered.
+    #[tactic(auto, using(crate::proofs::Tries::tried_none, crate::proofs::Tries::tried_longer))]
+    fn try_arc(&self, arc: Arc, table: &mut [Option<K::Length>]) -> bool
+        requires { EndsWithin (length table.old) arc }
+        ensures table { table.new ≡ tried (K.Kind.model self.now.kind.now) self.now.width arc table.old }
+        ensures same { result ≡ false → table.new ≡ table.old }
+    {
+        if u32::from(arc.capacity) < self.width {
+            return false;
+        }
+        let Some(rest) = table[usize::from(arc.to)] else {
+            return false;
+        };
+        let length = self.kind.join(self.kind.arc_length(arc), rest);
+        let here = table[usize::from(arc.from)];
+        let shorter = self.is_shorter(length, here);
+        if shorter {
+            table[usize::from(arc.from)] = Some(length);
+        }
+        shorter
+    }
+
+    // Tries every arc in turn. Whether the table changed.
+    fn try_arcs(&self, table: &mut [Option<K::Length>]) -> bool
+        requires { self.now.sites ≤ length table.old }
+        ensures table { table.new ≡ all_tried (K.Kind.model self.now.kind.now) self.now.width self.now.arcs.now table.old }
+        ensures same { result ≡ false → table.new ≡ table.old }
+    {
+        let mut changed = false;
+        for arc in self.arcs {
+            changed |= self.try_arc(*arc, table);
+        }
+        changed
+    }
+
+    // Fills the first places of a table with the least totals to a destination: first only the destination is reached, and
+    // then every arc is tried, round after round, until nothing changes or there were as many rounds as there are sites.
+    #[tactic(auto, using(crate::proofs::Rounds::rounds_settled, crate::proofs::Rounds::rounds_next))]
+    fn fill_table(&self, destination: usize, table: &mut [Option<K::Length>])
+        requires site { destination < self.now.sites }
+        requires room { self.now.sites ≤ length table.old }
+        ensures { table.new ≡ rounds (K.Kind.model self.now.kind.now) self.now.width self.now.arcs.now self.now.sites (first_table (K.Kind.model self.now.kind.now) self.now.sites destination table.old) }
+    {
+        table[..self.sites].fill(None);
+        table[destination] = Some(self.kind.empty_length());
+        for _round in 0..self.sites {
+            if !self.try_arcs(table) {
+                return;
+            }
         }
     }
 }
@@ -114,8 +108,15 @@ pub fn least_totals<N: Network, K: Kind>(
     if table.len() < sites {
         return Err(LeastTotalsRefusal::TableTooShort);
     }
+    // Fixed memory, for as many arcs as a network may have.
     let mut arcs = [Arc::default(); 256];
     let count = list_arcs(network, &mut arcs);
-    fill_table(kind, &arcs[0..count], sites, site, width, table);
+    let round = Round {
+        kind,
+        width,
+        sites,
+        arcs: &arcs[..count],
+    };
+    round.fill_table(site, table);
     Ok(())
 }

@@ -30,13 +30,15 @@ impl<'a> BitReader<'a> {
     fn has(&self, width: u32) -> bool
         ensures { result ≡ bits_there self.now.bytes.now self.now.position width }
     {
-        let end = u64::from(self.position) + u64::from(width);
-        end < 1 << 32 && end.div_ceil(8) <= self.bytes.len() as u64
+        self.position
+            .checked_add(width)
+            .is_some_and(|end| end.div_ceil(8) as usize <= self.bytes.len())
     }
 
     // The next bit.
     fn bit(&mut self) -> u32
-        requires { (self.old.position < 8 * length self.old.bytes.now) × (self.old.position + 1 < 2 ^ 32) }
+        requires there { self.old.position < 8 * length self.old.bytes.now }
+        requires in_range { self.old.position + 1 < 2 ^ 32 }
         ensures value { result ≡ slice_index (bits_of self.old.bytes.now) self.old.position }
         ensures position { self.new.position ≡ self.old.position + 1 }
         ensures bytes { self.new.bytes ≡ self.old.bytes }

@@ -6,7 +6,8 @@ use network::Arc;
 
 // The field of a width that stands `shift` bits above the lowest bit of a word.
 fn word_field(word: u64, shift: u32, width: u32) -> u16
-    requires { (shift < 64) × (width ≤ 16) }
+    requires in_word { shift < 64 }
+    requires narrow { width ≤ 16 }
     ensures value { result ≡ word_field word shift width }
     ensures below { result < 2 ^ width }
 {

@@ -18,11 +18,13 @@ fn size_of_sheet(arcs: u16) -> usize
 
 // Writes a head into the first two bytes.
 fn put_head(buffer: &mut [u8], sites: u8, arcs: u16)
-    requires { (2 ≤ length buffer.old) × ((sites ≤ 64) × (arcs ≤ 256)) }
+    requires room { 2 ≤ length buffer.old }
+    requires few_sites { sites ≤ 64 }
+    requires few_arcs { arcs ≤ 256 }
     ensures { buffer.new ≡ head_bytes sites arcs ++ drop 2 buffer.old }
 {
     let head = u16::from(sites) * 512 + arcs;
-    buffer[0..2].copy_from_slice(&head.to_be_bytes());
+    buffer[..2].copy_from_slice(&head.to_be_bytes());
 }
 
 // Writes a word into the eight bytes from a place on.

@@ -14,57 +14,6 @@ use Rattle.sheet.specs.Rows.{length_bits, row_bits, number_bits, number_append, 
 use Rattle.sheet.specs.Bytes.{length_joined, length_bytes_of, bytes_of_append}
 use Rattle.sheet.specs.Layouts.{row_before, bits_of_word}
 
--- the bits of a number, the upper and the lower
-bits_split : (a b x : ℕ) → bits (a + b) x ≡ bits a (x / 2 ^ b) ++ bits b x
-bits_split zero b x = let z : 0 + b ≡ b = omega arith in ap (λ n. bits n x) z
-bits_split (suc a) b x =
-    let s : suc a + b ≡ suc (a + b) = omega arith in
-    let t : b + a ≡ a + b = omega arith in
-    let q : x / 2 ^ (a + b) ≡ x / 2 ^ b / 2 ^ a = ap (λ n. x / 2 ^ n) (sym t) ∙ sym (shr-shr x b a) in
-    ap (λ n. bits n x) s ∙ (ap (λ y. y % 2 ∷ bits (a + b) x) q ∙ ap (λ xs. x / 2 ^ b / 2 ^ a % 2 ∷ xs) (bits_split a b x))
-
--- the first byte of a number
-first_byte : (k x : ℕ) → bytes_of (suc k) (bits (8 + 8 * k) x) ≡ x / 2 ^ (8 * k) % 256 ∷ bytes_of k (bits (8 * k) x)
-first_byte k x =
-    let high = bits 8 (x / 2 ^ (8 * k)) in
-    let low = bits (8 * k) x in
-    let one : number (take 8 (high ++ low)) ≡ x / 2 ^ (8 * k) % 256 = ap number (take_at high low 8 (length_bits 8 (x / 2 ^ (8 * k)))) ∙ number_bits 8 (x / 2 ^ (8 * k)) in
-    ap (bytes_of (suc k)) (bits_split 8 (8 * k) x) ∙ ap (λ b. b ∷ bytes_of k low) one
-
-pub word_bytes_are :
-    (w : ℕ) →
-    word_bytes w ≡ w / 2 ^ 56 % 256 ∷ w / 2 ^ 48 % 256 ∷ w / 2 ^ 40 % 256 ∷ w / 2 ^ 32 % 256 ∷ w / 2 ^ 24 % 256 ∷ w / 2 ^ 16 % 256 ∷ w / 2 ^ 8 % 256 ∷ w % 256 ∷ []
-unfolding word_bytes
-word_bytes_are w =
-    let last : w / 1 % 256 ≡ w % 256 = omega arith in
-    first_byte 7 w
-    ∙ ap (λ bs. w / 2 ^ 56 % 256 ∷ bs)
-    (first_byte 6 w
-    ∙ ap (λ bs. w / 2 ^ 48 % 256 ∷ bs)
-    (first_byte 5 w
-    ∙ ap (λ bs. w / 2 ^ 40 % 256 ∷ bs)
-    (first_byte 4 w
-    ∙ ap (λ bs. w / 2 ^ 32 % 256 ∷ bs)
-    (first_byte 3 w
-    ∙ ap (λ bs. w / 2 ^ 24 % 256 ∷ bs)
-    (first_byte 2 w
-    ∙ ap (λ bs. w / 2 ^ 16 % 256 ∷ bs) (first_byte 1 w ∙ ap (λ bs. w / 2 ^ 8 % 256 ∷ bs) (first_byte 0 w ∙ ap (λ b. b ∷ []) last)))))))
-
--- the head as one number of 16 bits
-pub head_bytes_are : (n m : ℕ) → n ≤ 64 → m ≤ 256 → head_bytes n m ≡ (n * 512 + m) / 256 % 256 ∷ (n * 512 + m) % 256 ∷ []
-unfolding head_bytes
-head_bytes_are n m few few' =
-    let head = bits 7 n ++ bits 9 m in
-    let value : number head ≡ n * 512 + m = number_append (bits 7 n) (bits 9 m) ∙ head_value in
-    let row = row_before 7 n (bits 9 m) (row_bits 9 m) in
-    let again : bits 16 (n * 512 + m) ≡ head = ap (bits 16) (sym value) ∙ bits_number head row in
-    let last : (n * 512 + m) / 1 % 256 ≡ (n * 512 + m) % 256 = omega arith in
-    ap (bytes_of 2) (sym again)
-    ∙ (first_byte 1 (n * 512 + m) ∙ ap (λ bs. (n * 512 + m) / 256 % 256 ∷ bs) (first_byte 0 (n * 512 + m) ∙ ap (λ b. b ∷ []) last))
-  where
-    head_value : number (bits 7 n) * 2 ^ length (bits 9 m) + number (bits 9 m) ≡ n * 512 + m
-    head_value = ap (λ x. x * 512 + number (bits 9 m)) (number_bits_of 7 n (omega arith)) ∙ ap (λ x. n * 512 + x) (number_bits_of 9 m (omega arith))
-
 -- the bytes of one arc
 pub arc_bytes_are : (a : Arc) → word_bytes (arc_word a) ≡ bytes_of 8 (arc_bits a)
 unfolding word_bytes

@@ -50,7 +50,7 @@ field_of_bytes n at bytes =
     ap (λ bs. number (take (8 * n) bs)) (sym (bits_of_drop at bytes)) ∙ ap number (sym (bits_of_take n (drop at bytes)))
 
 -- a part of a row that lies in the middle of a part
-middle : (bs : List ℕ) (n o w : ℕ) → o + w ≤ n → take w (drop o (take n bs)) ≡ take w (drop o bs)
+pub middle : (bs : List ℕ) (n o w : ℕ) → o + w ≤ n → take w (drop o (take n bs)) ≡ take w (drop o bs)
 middle bs n o w h =
     let e : o + (n - o) ≡ n = omega arith in
     let l : w ≤ n - o = omega arith in

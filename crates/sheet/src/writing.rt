@@ -6,7 +6,7 @@ ghost use Rattle.sheet.specs.Layout.{sheet_size, write_answer, write_told, buffe
 ghost use Rattle.sheet.specs.Steps.{head_bytes, word_bytes, arcs_bytes};
 
 use super::refusals::WriteRefusal;
-use super::words::encode_arc;
+use super::words::ArcWord;
 use network::Network;
 
 // How many bytes a sheet of so many arcs has.
@@ -28,9 +28,9 @@ fn put_head(buffer: &mut [u8], sites: u8, arcs: u16)
 }
 
 // Writes a word into the eight bytes from a place on.
-fn put_word(buffer: &mut [u8], at: usize, word: u64)
+fn put_word(buffer: &mut [u8], at: usize, word: ArcWord)
     requires { at + 8 ≤ length buffer.old }
-    ensures { buffer.new ≡ take at buffer.old ++ (word_bytes word ++ drop (at + 8) buffer.old) }
+    ensures { buffer.new ≡ take at buffer.old ++ (word_bytes word.0 ++ drop (at + 8) buffer.old) }
 {
     buffer[at..at + 8].copy_from_slice(&word.to_be_bytes());
 }
@@ -42,7 +42,7 @@ fn put_arcs<N: Network>(network: &N, buffer: &mut [u8])
 {
     for number in 0..network.arcs() {
         let arc = network.arc(u32::from(number)).unwrap();
-        put_word(buffer, 2 + 8 * usize::from(number), encode_arc(arc));
+        put_word(buffer, 2 + 8 * usize::from(number), ArcWord::from(arc));
     }
 }
 

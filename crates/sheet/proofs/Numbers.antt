@@ -1,12 +1,12 @@
 -- Numbers of whole bytes, the highest byte first, and the bits that they stand for.
-use Rattle.std.proofs.Common.{◌≡◌, ℕ, zero, suc, ◌+◌, ◌*◌, ◌/◌, ◌%◌, ◌^◌, ◌<◌, ◌≤◌, List, [], ◌∷◌, ◌++◌, length, get_or, take, drop, sym, refl, ap, ◌∙◌, arith, mul-suc, pow-suc, take_at}
+use Rattle.std.proofs.Common.{◌≡◌, ℕ, zero, suc, ◌+◌, ◌*◌, ◌/◌, ◌%◌, ◌^◌, ◌<◌, ◌≤◌, List, ◌∷◌, ◌++◌, length, get_or, take, drop, sym, refl, ap, ◌∙◌, arith, mul-suc, pow-suc, take_at}
 use Rattle.std.specs.Int.{w16, w64, byte_at, bytes_high_first, to_be_bytes, from_be_bytes}
 use Rattle.std.specs.Simd.{first_chunks}
 use Rattle.std.proofs.lemmas.Nat.{shr-shr, pow-add, from_be_bytes-to_be_bytes_8}
 use Rattle.std.proofs.lemmas.List.{drop-drop}
 use Rattle.sheet.specs.Bits.{bits, number, bits_of, bytes_of}
 use Rattle.sheet.specs.Steps.{head_bytes, word_bytes}
-use Rattle.sheet.specs.Rows.{length_bits, row_bits, number_bits, number_append, number_bits_of, bits_number, number_lt}
+use Rattle.sheet.specs.Rows.{row_bits, number_bits, number_append, number_bits_of, bits_number, number_lt}
 use Rattle.sheet.specs.Bytes.{Bytes, length_bits_of, row_bits_of, bytes_of_bits_of}
 use Rattle.sheet.specs.Layouts.{row_before}
 

@@ -1,18 +1,16 @@
 -- A sheet in pieces: two bytes for its head, eight for each arc, and how a buffer comes to hold them.
-use Rattle.std.proofs.Common.{◌≡◌, ℕ, zero, suc, ◌+◌, ◌*◌, ◌/◌, ◌%◌, ◌^◌, ◌<◌, ◌≤◌, List, [], ◌∷◌, ◌++◌, length, get_or, take, drop, Ok, sym, refl, ap, ◌∙◌, append_assoc, arith, length-append, take-append-drop, length-take-le, take_all, take_at, drop_at}
+use Rattle.std.proofs.Common.{◌≡◌, ℕ, suc, ◌+◌, ◌*◌, ◌<◌, ◌≤◌, List, [], ◌∷◌, ◌++◌, length, get_or, take, drop, Ok, sym, refl, ap, ◌∙◌, append_assoc, arith, length-append, take-append-drop, length-take-le, take_all, take_at, drop_at}
 use Rattle.std.specs.List.{flat_map}
-use Rattle.std.proofs.lemmas.Nat.{shr-shr}
 use Rattle.std.proofs.lemmas.List.{drop-drop, take_more, flat_map_more}
 use Rattle.std.proofs.lemmas.Bool.{le-ltb}
 use Rattle.network.specs.declared.arc.Arc.{Arc}
 use Rattle.network.specs.Net.{Net, arc_count, no_arc}
-use Rattle.sheet.specs.Bits.{bits, number, bytes_of}
+use Rattle.sheet.specs.Bits.{bits, bytes_of}
 use Rattle.sheet.specs.Layout.{arc_bits, sheet_of, sheet_size, write_answer}
 use Rattle.sheet.specs.Words.{arc_word}
 use Rattle.sheet.specs.Steps.{head_bytes, word_bytes, arcs_bytes}
-use Rattle.sheet.specs.Rows.{length_bits, row_bits, number_bits, number_append, number_bits_of, bits_number}
 use Rattle.sheet.specs.Bytes.{length_joined, length_bytes_of, bytes_of_append}
-use Rattle.sheet.specs.Layouts.{row_before, bits_of_word}
+use Rattle.sheet.specs.Layouts.{bits_of_word}
 
 -- the bytes of one arc
 pub arc_bytes_are : (a : Arc) → word_bytes (arc_word a) ≡ bytes_of 8 (arc_bits a)

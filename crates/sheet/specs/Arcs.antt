@@ -1,13 +1,11 @@
 -- Arcs as numbers of 64 bits and as eight bytes.
-use Rattle.std.specs.Prelude.{◌≡◌, ℕ, ◌+◌, ◌*◌, ◌%◌, ◌^◌, ◌<◌, ◌≤◌, List, [], ◌∷◌, ◌++◌, length, take, drop, slice_index, slice_index_or, refl}
-use Rattle.std.proofs.Common.{ap, ◌∙◌, add_assoc, arith, length-append}
+use Rattle.std.specs.Prelude.{◌≡◌, ℕ, ◌+◌, ◌*◌, ◌%◌, ◌^◌, ◌<◌, ◌≤◌, List, ◌++◌, length, refl}
+use Rattle.std.proofs.Common.{◌∙◌, arith, length-append}
 use Rattle.network.specs.declared.arc.Arc.{Arc}
 use Rattle.network.specs.Net.{ArcFits}
-use Rattle.sheet.specs.Bits.{bits, number, bits_of, field}
+use Rattle.sheet.specs.Bits.{bits, number}
 use Rattle.sheet.specs.Words.{arc_word, arc_in_word}
-use Rattle.sheet.specs.Rows.{length_bits, number_append, number_bits, number_bits_of}
-use Rattle.sheet.specs.Bytes.{Bytes, length_bits_of}
-use Rattle.sheet.specs.FieldsLemmas.{window, field_of_bytes}
+use Rattle.sheet.specs.Rows.{length_bits, number_append, number_bits}
 
 -- the bits of a number as they stand in a longer row
 part : ℕ → ℕ → List ℕ

@@ -11,6 +11,7 @@ pub struct Field {
 }
 
 // Reads a caller's bytes from the most significant bit of the first on; `position` counts the bits read.
+// It keeps all the bytes and a position in bits, since a field may begin within a byte and is handed out with its place.
 #[derive(Drop)]
 pub struct BitReader<'a> {
     bytes: &'a [u8],

@@ -9,7 +9,7 @@ ghost use Rattle.sheet.specs.Steps.{head_in, head_checks, end_checks, field_at, 
 
 use super::reader::{BitReader, Field};
 use super::refusals::ReadRefusal;
-use super::sheet::{MOST_BYTES, Sheet};
+use super::sheet::{MOST_BYTES, Sheet, size_of_sheet};
 
 // The two numbers in a head.
 #[derive(Clone, Copy)]
@@ -41,7 +41,7 @@ fn check_head(size: usize, head: Head) -> Result<(), ReadRefusal>
     if head.arcs > 256 {
         return Err(ReadRefusal::TooManyArcs);
     }
-    if size != 2 + 8 * head.arcs as usize {
+    if size != size_of_sheet(head.arcs) {
         return Err(ReadRefusal::WrongByteCount);
     }
     Ok(())

@@ -6,15 +6,9 @@ ghost use Rattle.sheet.specs.Layout.{sheet_size, write_answer, write_told, buffe
 ghost use Rattle.sheet.specs.Steps.{head_bytes, word_bytes, arcs_bytes};
 
 use super::refusals::WriteRefusal;
+use super::sheet::size_of_sheet;
 use super::words::ArcWord;
 use network::Network;
-
-// How many bytes a sheet of so many arcs has.
-fn size_of_sheet(arcs: u16) -> usize
-    ensures { result ≡ sheet_size arcs }
-{
-    2 + 8 * usize::from(arcs)
-}
 
 // Writes a head into the first two bytes.
 fn put_head(buffer: &mut [u8], sites: u8, arcs: u16)
@@ -35,7 +29,8 @@ fn put_word(buffer: &mut [u8], at: usize, word: ArcWord)
     buffer[at..at + 8].copy_from_slice(&word.to_be_bytes());
 }
 
-// Writes every arc, the first after the first two bytes.
+// Writes every arc, the first after the first two bytes. By number: no proof learns what was written into chunks that a
+// buffer lends one after another.
 fn put_arcs<N: Network>(network: &N, buffer: &mut [u8])
     requires { sheet_size (arc_count (N.Network.meaning network.now)) ≤ length buffer.old }
     ensures { buffer.new ≡ take 2 buffer.old ++ (arcs_bytes (N.Network.meaning network.now).arcs ++ drop (sheet_size (arc_count (N.Network.meaning network.now))) buffer.old) }
@@ -54,7 +49,7 @@ pub fn write_sheet<N: Network>(network: &N, buffer: &mut [u8]) -> Result<usize, 
     ensures reads_back { is_ok result ≡ true → read_answer (take (sheet_size (arc_count (N.Network.meaning network.now))) buffer.new) ≡ Ok (N.Network.meaning network.now) }
 {
     let arcs = network.arcs();
-    let size = size_of_sheet(arcs);
+    let size = size_of_sheet(u32::from(arcs));
     if buffer.len() < size {
         return Err(WriteRefusal::BufferTooShort);
     }

@@ -1,5 +1,5 @@
 -- The first field is the number of sites, and the second that of arcs.
-use Rattle.std.proofs.Common.{◌≡◌, Some, refl, ap, ◌∙◌, arith}
+use Rattle.std.proofs.Common.{◌≡◌, Some, refl, ap, arith}
 use Rattle.sheet.specs.FieldsLemmas.{handed_out, was_left, moved_on, left_parts}
 use Rattle.sheet.specs.Sound.{head_found}
 use Rattle.sheet.proofs.reading.read_head.Goals as goal

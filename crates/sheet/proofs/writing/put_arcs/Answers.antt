@@ -4,7 +4,7 @@ use Rattle.std.specs.List.{slice_get}
 use Rattle.std.proofs.lemmas.Option.{slice_get-get_or}
 use Rattle.network.specs.Net.{no_arc}
 use Rattle.sheet.specs.Words.{arc_word}
-use Rattle.sheet.proofs.Pieces.{buffer_none, buffer_more, buffer_all}
+use Rattle.sheet.proofs.Pieces.{buffer_none, buffer_more}
 use Rattle.sheet.proofs.writing.put_arcs.Goals as goal
 
 pub loop-number-init : goal.loop-number-init

@@ -1,5 +1,5 @@
 -- The eight bytes of a word stand between what was before them and after them.
-use Rattle.std.proofs.Common.{◌≡◌, ◌+◌, ◌-◌, ◌++◌, take, drop, sym, ap, ◌∙◌, arith}
+use Rattle.std.proofs.Common.{◌≡◌, ◌+◌, ◌-◌, ◌++◌, take, drop, ap, ◌∙◌, arith}
 use Rattle.std.proofs.lemmas.List.{drop-drop}
 use Rattle.sheet.specs.Steps.{word_bytes}
 use Rattle.sheet.proofs.writing.put_word.Goals as goal

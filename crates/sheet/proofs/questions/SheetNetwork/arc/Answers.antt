@@ -1,6 +1,5 @@
 -- The eight bytes of an arc are read as one number, which has the arc.
-use Rattle.std.proofs.Common.{◌≡◌, ◌<◌, ◌≤◌, ◌+◌, ◌*◌, ◌/◌, ◌∙◌, Some, length, get_or, take, drop, sym, ap, arith, rules, length-take, length-drop}
-use Rattle.std.specs.Simd.{first_chunks}
+use Rattle.std.proofs.Common.{◌≡◌, ◌<◌, ◌+◌, ◌*◌, ◌/◌, ◌∙◌, Some, length, get_or, take, drop, sym, ap, arith, rules, length-take}
 use Rattle.std.proofs.lemmas.List.{drop-drop, get_or-take}
 use Rattle.sheet.specs.Bits.{field, number, bits_of}
 use Rattle.sheet.specs.Layout.{kept_bytes, sheet_size, arc_in}
@@ -25,15 +24,15 @@ returns c =
     let inside : i < length (take c.from.result words) = search rules in
     let here : i < sheet.arcs = let is = c.from.ensures in omega (arith, length-take c.from.result words) in
     let word : c.in_ok-word.word.now ≡ take 8 (drop (2 + 8 * i) sheet.bytes) =
-        c.in_ok-word.ensures.lookup.1
-        ∙ (get_or-take c.from.result words i c.in_ok-word.word.now (omega arith)
-        ∙ (ap (λ xs. get_or xs i c.in_ok-word.word.now) c.as_chunks.ensures.front
-        ∙ (chunk_at 8 (length (take 2048 (drop 2 sheet.bytes)) / 8) (take 2048 (drop 2 sheet.bytes)) i c.in_ok-word.word.now (omega arith)
-        ∙ (middle (drop 2 sheet.bytes) 2048 (8 * i) 8 (omega arith) ∙ ap (take 8) (drop-drop (8 * i) 2 sheet.bytes))))) in
+    c.in_ok-word.ensures.lookup.1
+    ∙ (get_or-take c.from.result words i c.in_ok-word.word.now (omega arith)
+    ∙ (ap (λ xs. get_or xs i c.in_ok-word.word.now) c.as_chunks.ensures.front
+    ∙ (chunk_at 8 (length (take 2048 (drop 2 sheet.bytes)) / 8) (take 2048 (drop 2 sheet.bytes)) i c.in_ok-word.word.now (omega arith)
+    ∙ (middle (drop 2 sheet.bytes) 2048 (8 * i) 8 (omega arith) ∙ ap (take 8) (drop-drop (8 * i) 2 sheet.bytes))))) in
     let value : c.from_be_bytes.result.0 ≡ field bytes (16 + 64 * i) 64 =
-        c.from_be_bytes.ensures
-        ∙ (ap (λ xs. number (bits_of xs)) word
-        ∙ (sym (field_of_bytes 8 (2 + 8 * i) sheet.bytes)
-        ∙ (ap (λ p. field sheet.bytes p 64) place ∙ sym (field_of_front sheet.bytes (sheet_size sheet.arcs) (16 + 64 * i) 64 (omega arith))))) in
+    c.from_be_bytes.ensures
+    ∙ (ap (λ xs. number (bits_of xs)) word
+    ∙ (sym (field_of_bytes 8 (2 + 8 * i) sheet.bytes)
+    ∙ (ap (λ p. field sheet.bytes p 64) place ∙ sym (field_of_front sheet.bytes (sheet_size sheet.arcs) (16 + 64 * i) 64 (omega arith))))) in
     let arc : c.from-2.result ≡ arc_in bytes i = c.from-2.ensures ∙ (ap arc_in_word value ∙ sym (arc_in_is bytes i (omega arith))) in
     ap (λ a. Some a) arc ∙ sym (arc_found bytes i (omega arith))

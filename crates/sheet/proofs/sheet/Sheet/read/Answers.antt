@@ -1,12 +1,8 @@
 -- Reading answers what the checks tell, and keeps the bytes as they came.
-use Rattle.std.proofs.Common.{◌≡◌, ◌<◌, is_ok, Some, None, Ok, Err, sym, ap, ◌∙◌, arith}
+use Rattle.std.proofs.Common.{◌<◌, is_ok, sym, ap, ◌∙◌, arith}
 use Rattle.std.proofs.ByRecursion.{All-from_get_or}
-use Rattle.std.proofs.lemmas.Result.{err_from_is_err_and, IfOk-from_err}
-use Rattle.network.specs.Checks.{outcome}
-use Rattle.sheet.specs.Layout.{sheet_of, net_in, read_answer, read_told}
-use Rattle.sheet.specs.Sheets.{sheet_meaning}
-use Rattle.sheet.specs.Steps.{head_in}
-use Rattle.sheet.specs.Sound.{sound, ok_answer, sound_writes_back, head_there, refused_head, by_arcs}
+use Rattle.sheet.specs.Layout.{sheet_of, net_in, read_answer}
+use Rattle.sheet.specs.Sound.{sound, sound_writes_back}
 use Rattle.sheet.proofs.sheet.Sheet.read.Goals as goal
 
 pub returns-clause-writes_back : goal.returns-clause-writes_back

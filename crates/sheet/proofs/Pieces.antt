@@ -1,12 +1,11 @@
 -- A sheet in pieces: two bytes for its head, eight for each arc, and how a buffer comes to hold them.
-use Rattle.std.proofs.Common.{◌≡◌, ℕ, suc, ◌+◌, ◌*◌, ◌<◌, ◌≤◌, List, [], ◌∷◌, ◌++◌, length, get_or, take, drop, Ok, sym, refl, ap, ◌∙◌, append_assoc, arith, length-append, take-append-drop, length-take-le, take_all, take_at, drop_at}
+use Rattle.std.proofs.Common.{◌≡◌, ℕ, suc, ◌+◌, ◌*◌, ◌<◌, ◌≤◌, List, [], ◌∷◌, ◌++◌, length, get_or, take, drop, sym, refl, ap, ◌∙◌, append_assoc, arith, length-append, take-append-drop, length-take-le, take_at, drop_at}
 use Rattle.std.specs.List.{flat_map}
 use Rattle.std.proofs.lemmas.List.{drop-drop, take_more, flat_map_more}
-use Rattle.std.proofs.lemmas.Bool.{le-ltb}
 use Rattle.network.specs.declared.arc.Arc.{Arc}
 use Rattle.network.specs.Net.{Net, arc_count, no_arc}
 use Rattle.sheet.specs.Bits.{bits, bytes_of}
-use Rattle.sheet.specs.Layout.{arc_bits, sheet_of, sheet_size, write_answer}
+use Rattle.sheet.specs.Layout.{arc_bits, sheet_of, sheet_size}
 use Rattle.sheet.specs.Words.{arc_word}
 use Rattle.sheet.specs.Steps.{head_bytes, word_bytes, arcs_bytes}
 use Rattle.sheet.specs.Bytes.{length_joined, length_bytes_of, bytes_of_append}
@@ -75,16 +74,6 @@ buffer_more arcs i k w old now at word h room e =
     ∙ (append_assoc (take 2 old) (arcs_bytes (take i arcs)) (here ++ drop (2 + 8 * (i + 1)) old)
     ∙ ap (λ xs. take 2 old ++ xs) (sym (append_assoc (arcs_bytes (take i arcs)) here (drop (2 + 8 * (i + 1)) old)) ∙ ap (λ xs. xs ++ drop (2 + 8 * (i + 1)) old) (sym (arcs_bytes_more arcs i h)))))))
 
--- the buffer after the last arc is written
-pub buffer_all :
-    (arcs : List Arc) (i : ℕ) (old now : List ℕ) → i ≡ length arcs →
-    now ≡ take 2 old ++ (arcs_bytes (take i arcs) ++ drop (2 + 8 * i) old) →
-    now ≡ take 2 old ++ (arcs_bytes arcs ++ drop (2 + 8 * length arcs) old)
-buffer_all arcs i old now h e =
-    e
-    ∙ (ap (λ xs. take 2 old ++ (arcs_bytes xs ++ drop (2 + 8 * i) old)) (take_all i arcs (omega arith))
-    ∙ ap (λ n. take 2 old ++ (arcs_bytes arcs ++ drop (2 + 8 * n) old)) h)
-
 length_head_bytes : (n m : ℕ) → length (head_bytes n m) ≡ 2
 unfolding head_bytes
 length_head_bytes n m = length_bytes_of 2 (bits 7 n ++ bits 9 m)
@@ -106,7 +95,3 @@ buffer_whole net n m old headed now en em eh e =
     ∙ (ap (λ xs. head ++ (arcs_bytes net.arcs ++ xs)) after
     ∙ (sym (append_assoc head (arcs_bytes net.arcs) (drop (sheet_size (arc_count net)) old))
     ∙ ap (λ xs. xs ++ drop (sheet_size (arc_count net)) old) (sym (sheet_pieces net)))))
-
--- what writing answers where the buffer has room
-pub write_ok : (net : Net) (buffer : List ℕ) → sheet_size (arc_count net) ≤ length buffer → write_answer net buffer ≡ Ok (sheet_size (arc_count net))
-write_ok net buffer h = rw (le-ltb (length buffer) (sheet_size (arc_count net)) h)

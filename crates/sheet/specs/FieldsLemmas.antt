@@ -1,9 +1,8 @@
 -- Fields of a row of bytes: how large one is, one bit more, and a field within a longer one.
-use Rattle.std.specs.Prelude.{◌≡◌, ℕ, zero, suc, ◌+◌, ◌-◌, ◌*◌, ◌/◌, ◌%◌, ◌^◌, ◌<◌, ◌≤◌, Bool, true, false, cond, List, ◌∷◌, ◌++◌, map, length, take, drop, Some, None, nat_le, nat_lt, slice_index, refl}
+use Rattle.std.specs.Prelude.{◌≡◌, ℕ, ◌+◌, ◌-◌, ◌*◌, ◌/◌, ◌%◌, ◌^◌, ◌<◌, ◌≤◌, Bool, true, false, cond, List, ◌++◌, length, take, drop, Some, None, nat_le, nat_lt, slice_index, refl}
 use Rattle.std.proofs.Common.{sym, ap, ◌∙◌, arith, length-drop, take-append-drop, pow_mono, length-take-le, take-take, get_or-drop}
-use Rattle.std.specs.List.{range_with_len}
 use Rattle.std.proofs.ByRecursion.{All-take, All-drop}
-use Rattle.std.proofs.lemmas.List.{drop-drop, drop-take, drop_more}
+use Rattle.std.proofs.lemmas.List.{drop-drop, drop-take}
 use Rattle.std.proofs.lemmas.List.Sums.{fold_more}
 use Rattle.std.proofs.lemmas.Bool.{and_parts, leb-true, ltb-true}
 use Rattle.sheet.specs.declared.reader.Field.{Field}
@@ -36,13 +35,6 @@ field_more bytes p w h =
 -- a field of no more than so many bits
 pub field_below : (bytes : List ℕ) (p w n : ℕ) → w ≤ n → field bytes p w < 2 ^ n
 field_below bytes p w n h = let f = field_lt bytes p w in omega (arith, pow_mono h)
-
--- so many items from a place on
-pub window : (n at : ℕ) (xs : List ℕ) → at + n ≤ length xs → take n (drop at xs) ≡ map (λ i. slice_index xs i) (range_with_len at n)
-window zero at xs h = refl
-window (suc n) at xs h =
-    let l : at < length xs = omega arith in
-    ap (take (suc n)) (drop_more xs at 0 l) ∙ ap (λ ys. slice_index xs at ∷ ys) (window n (at + 1) xs (omega arith))
 
 -- a field of whole bytes
 pub field_of_bytes : (n at : ℕ) (bytes : List ℕ) → field bytes (8 * at) (8 * n) ≡ number (bits_of (take n (drop at bytes)))

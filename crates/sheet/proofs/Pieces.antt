@@ -1,69 +1,15 @@
 -- A sheet in pieces: two bytes for its head, eight for each arc, and how a buffer comes to hold them.
-use Rattle.std.proofs.Common.{◌≡◌, ℕ, zero, suc, ◌+◌, ◌*◌, ◌/◌, ◌%◌, ◌^◌, ◌<◌, ◌≤◌, List, [], ◌∷◌, ◌++◌, length, get_or, take, drop, Ok, sym, refl, ap, ◌∙◌, append_assoc, arith, length-append, take-append-drop, length-take-le, take_all, take_at, drop_at}
+use Rattle.std.proofs.Common.{◌≡◌, ℕ, suc, ◌+◌, ◌*◌, ◌<◌, ◌≤◌, List, [], ◌∷◌, ◌++◌, length, get_or, take, drop, sym, refl, ap, ◌∙◌, append_assoc, arith, length-append, take-append-drop, length-take-le, take_at, drop_at}
 use Rattle.std.specs.List.{flat_map}
-use Rattle.std.proofs.lemmas.Nat.{shr-shr}
 use Rattle.std.proofs.lemmas.List.{drop-drop, take_more, flat_map_more}
-use Rattle.std.proofs.lemmas.Bool.{le-ltb}
 use Rattle.network.specs.declared.arc.Arc.{Arc}
 use Rattle.network.specs.Net.{Net, arc_count, no_arc}
-use Rattle.sheet.specs.Bits.{bits, number, bytes_of}
-use Rattle.sheet.specs.Layout.{arc_bits, sheet_of, sheet_size, write_answer}
+use Rattle.sheet.specs.Bits.{bits, bytes_of}
+use Rattle.sheet.specs.Layout.{arc_bits, sheet_of, sheet_size}
 use Rattle.sheet.specs.Words.{arc_word}
 use Rattle.sheet.specs.Steps.{head_bytes, word_bytes, arcs_bytes}
-use Rattle.sheet.specs.Rows.{length_bits, row_bits, number_bits, number_append, number_bits_of, bits_number}
 use Rattle.sheet.specs.Bytes.{length_joined, length_bytes_of, bytes_of_append}
-use Rattle.sheet.specs.Layouts.{row_before, bits_of_word}
-
--- the bits of a number, the upper and the lower
-bits_split : (a b x : ℕ) → bits (a + b) x ≡ bits a (x / 2 ^ b) ++ bits b x
-bits_split zero b x = let z : 0 + b ≡ b = omega arith in ap (λ n. bits n x) z
-bits_split (suc a) b x =
-    let s : suc a + b ≡ suc (a + b) = omega arith in
-    let t : b + a ≡ a + b = omega arith in
-    let q : x / 2 ^ (a + b) ≡ x / 2 ^ b / 2 ^ a = ap (λ n. x / 2 ^ n) (sym t) ∙ sym (shr-shr x b a) in
-    ap (λ n. bits n x) s ∙ (ap (λ y. y % 2 ∷ bits (a + b) x) q ∙ ap (λ xs. x / 2 ^ b / 2 ^ a % 2 ∷ xs) (bits_split a b x))
-
--- the first byte of a number
-first_byte : (k x : ℕ) → bytes_of (suc k) (bits (8 + 8 * k) x) ≡ x / 2 ^ (8 * k) % 256 ∷ bytes_of k (bits (8 * k) x)
-first_byte k x =
-    let high = bits 8 (x / 2 ^ (8 * k)) in
-    let low = bits (8 * k) x in
-    let one : number (take 8 (high ++ low)) ≡ x / 2 ^ (8 * k) % 256 = ap number (take_at high low 8 (length_bits 8 (x / 2 ^ (8 * k)))) ∙ number_bits 8 (x / 2 ^ (8 * k)) in
-    ap (bytes_of (suc k)) (bits_split 8 (8 * k) x) ∙ ap (λ b. b ∷ bytes_of k low) one
-
-pub word_bytes_are :
-    (w : ℕ) →
-    word_bytes w ≡ w / 2 ^ 56 % 256 ∷ w / 2 ^ 48 % 256 ∷ w / 2 ^ 40 % 256 ∷ w / 2 ^ 32 % 256 ∷ w / 2 ^ 24 % 256 ∷ w / 2 ^ 16 % 256 ∷ w / 2 ^ 8 % 256 ∷ w % 256 ∷ []
-unfolding word_bytes
-word_bytes_are w =
-    let last : w / 1 % 256 ≡ w % 256 = omega arith in
-    first_byte 7 w
-    ∙ ap (λ bs. w / 2 ^ 56 % 256 ∷ bs)
-    (first_byte 6 w
-    ∙ ap (λ bs. w / 2 ^ 48 % 256 ∷ bs)
-    (first_byte 5 w
-    ∙ ap (λ bs. w / 2 ^ 40 % 256 ∷ bs)
-    (first_byte 4 w
-    ∙ ap (λ bs. w / 2 ^ 32 % 256 ∷ bs)
-    (first_byte 3 w
-    ∙ ap (λ bs. w / 2 ^ 24 % 256 ∷ bs)
-    (first_byte 2 w
-    ∙ ap (λ bs. w / 2 ^ 16 % 256 ∷ bs) (first_byte 1 w ∙ ap (λ bs. w / 2 ^ 8 % 256 ∷ bs) (first_byte 0 w ∙ ap (λ b. b ∷ []) last)))))))
-
--- the head as one number of 16 bits
-pub head_bytes_are : (n m : ℕ) → n ≤ 64 → m ≤ 256 → head_bytes n m ≡ (n * 512 + m) / 256 % 256 ∷ (n * 512 + m) % 256 ∷ []
-unfolding head_bytes
-head_bytes_are n m few few' =
-    let head = bits 7 n ++ bits 9 m in
-    let value : number head ≡ n * 512 + m = number_append (bits 7 n) (bits 9 m) ∙ head_value in
-    let row = row_before 7 n (bits 9 m) (row_bits 9 m) in
-    let again : bits 16 (n * 512 + m) ≡ head = ap (bits 16) (sym value) ∙ bits_number head row in
-    let last : (n * 512 + m) / 1 % 256 ≡ (n * 512 + m) % 256 = omega arith in
-    ap (bytes_of 2) (sym again)
-    ∙ (first_byte 1 (n * 512 + m) ∙ ap (λ bs. (n * 512 + m) / 256 % 256 ∷ bs) (first_byte 0 (n * 512 + m) ∙ ap (λ b. b ∷ []) last))
-  where
-    head_value : number (bits 7 n) * 2 ^ length (bits 9 m) + number (bits 9 m) ≡ n * 512 + m
-    head_value = ap (λ x. x * 512 + number (bits 9 m)) (number_bits_of 7 n (omega arith)) ∙ ap (λ x. n * 512 + x) (number_bits_of 9 m (omega arith))
+use Rattle.sheet.specs.Layouts.{bits_of_word}
 
 -- the bytes of one arc
 pub arc_bytes_are : (a : Arc) → word_bytes (arc_word a) ≡ bytes_of 8 (arc_bits a)
@@ -128,16 +74,6 @@ buffer_more arcs i k w old now at word h room e =
     ∙ (append_assoc (take 2 old) (arcs_bytes (take i arcs)) (here ++ drop (2 + 8 * (i + 1)) old)
     ∙ ap (λ xs. take 2 old ++ xs) (sym (append_assoc (arcs_bytes (take i arcs)) here (drop (2 + 8 * (i + 1)) old)) ∙ ap (λ xs. xs ++ drop (2 + 8 * (i + 1)) old) (sym (arcs_bytes_more arcs i h)))))))
 
--- the buffer after the last arc is written
-pub buffer_all :
-    (arcs : List Arc) (i : ℕ) (old now : List ℕ) → i ≡ length arcs →
-    now ≡ take 2 old ++ (arcs_bytes (take i arcs) ++ drop (2 + 8 * i) old) →
-    now ≡ take 2 old ++ (arcs_bytes arcs ++ drop (2 + 8 * length arcs) old)
-buffer_all arcs i old now h e =
-    e
-    ∙ (ap (λ xs. take 2 old ++ (arcs_bytes xs ++ drop (2 + 8 * i) old)) (take_all i arcs (omega arith))
-    ∙ ap (λ n. take 2 old ++ (arcs_bytes arcs ++ drop (2 + 8 * n) old)) h)
-
 length_head_bytes : (n m : ℕ) → length (head_bytes n m) ≡ 2
 unfolding head_bytes
 length_head_bytes n m = length_bytes_of 2 (bits 7 n ++ bits 9 m)
@@ -159,7 +95,3 @@ buffer_whole net n m old headed now en em eh e =
     ∙ (ap (λ xs. head ++ (arcs_bytes net.arcs ++ xs)) after
     ∙ (sym (append_assoc head (arcs_bytes net.arcs) (drop (sheet_size (arc_count net)) old))
     ∙ ap (λ xs. xs ++ drop (sheet_size (arc_count net)) old) (sym (sheet_pieces net)))))
-
--- what writing answers where the buffer has room
-pub write_ok : (net : Net) (buffer : List ℕ) → sheet_size (arc_count net) ≤ length buffer → write_answer net buffer ≡ Ok (sheet_size (arc_count net))
-write_ok net buffer h = rw (le-ltb (length buffer) (sheet_size (arc_count net)) h)

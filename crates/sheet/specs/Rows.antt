@@ -3,6 +3,7 @@ use Rattle.std.specs.Prelude.{◌≡◌, ℕ, zero, suc, ◌+◌, ◌-◌, ◌*�
 use Rattle.std.proofs.Common.{append_assoc, sym, ap, ◌∙◌, mod-lt, mod-eq_of_lt, pow-suc, add-mul, mul_assoc, arith, lit<, length-take, pow_mono}
 use Rattle.std.specs.List.{AllByRecursion}
 use Rattle.std.proofs.lemmas.Nat.{mod-pow-add, shr_high, mod_low, mul-add-lt}
+use Rattle.std.proofs.lemmas.List.Sums.{fold-append}
 use Rattle.std.proofs.ByRecursion.{All-take}
 use Rattle.sheet.specs.Bits.{bits, number}
 
@@ -41,12 +42,8 @@ number_after n (b ∷ bs) =
 pub number_cons : (b : ℕ) (bs : List ℕ) → number (b ∷ bs) ≡ b * 2 ^ length bs + number bs
 number_cons b bs = let e : 2 * 0 + b ≡ b = omega arith in number_after (2 * 0 + b) bs ∙ ap (λ n. n * 2 ^ length bs + number bs) e
 
-folded_append : (n : ℕ) (xs ys : List ℕ) → fold (λ m b. 2 * m + b) n (xs ++ ys) ≡ fold (λ m b. 2 * m + b) (fold (λ m b. 2 * m + b) n xs) ys
-folded_append n [] ys = refl
-folded_append n (x ∷ xs) ys = folded_append (2 * n + x) xs ys
-
 pub number_append : (xs ys : List ℕ) → number (xs ++ ys) ≡ number xs * 2 ^ length ys + number ys
-number_append xs ys = folded_append 0 xs ys ∙ number_after (number xs) ys
+number_append xs ys = fold-append (λ m b. 2 * m + b) 0 xs ys ∙ number_after (number xs) ys
 
 pub number_bits : (w x : ℕ) → number (bits w x) ≡ x % 2 ^ w
 number_bits zero x = omega arith

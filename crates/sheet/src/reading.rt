@@ -9,7 +9,7 @@ ghost use Rattle.sheet.specs.Steps.{head_in, head_checks, end_checks, field_at, 
 
 use super::reader::{BitReader, Field};
 use super::refusals::ReadRefusal;
-use super::sheet::{MOST_BYTES, Sheet};
+use super::sheet::{MOST_BYTES, Sheet, size_of_sheet};
 
 // The two numbers in a head.
 #[derive(Clone, Copy)]
@@ -25,15 +25,9 @@ fn read_head(reader: &mut BitReader) -> Option<Head>
     ensures position { is_some result ≡ true → reader.new.position ≡ 16 }
     ensures bytes { reader.new.bytes ≡ reader.old.bytes }
 {
-    let Some(sites) = reader.field(7) else {
-        return None;
-    };
-    let Some(arcs) = reader.field(9) else {
-        return None;
-    };
     Some(Head {
-        sites: sites.value,
-        arcs: arcs.value,
+        sites: reader.field(7)?.value,
+        arcs: reader.field(9)?.value,
     })
 }
 
@@ -41,13 +35,13 @@ fn read_head(reader: &mut BitReader) -> Option<Head>
 fn check_head(size: usize, head: Head) -> Result<(), ReadRefusal>
     ensures { told result ≡ first_failed (head_checks size head) }
 {
-    if head.sites < 2 || head.sites > 64 {
+    if !(2..=64).contains(&head.sites) {
         return Err(ReadRefusal::SitesOutside);
     }
     if head.arcs > 256 {
         return Err(ReadRefusal::TooManyArcs);
     }
-    if size != 2 + 8 * head.arcs as usize {
+    if size != size_of_sheet(head.arcs) {
         return Err(ReadRefusal::WrongByteCount);
     }
     Ok(())
@@ -84,7 +78,10 @@ fn check_arc(reader: &mut BitReader, sites: u32) -> Result<(), ReadRefusal>
 
 // Checks the ends of every arc.
 fn check_arcs(reader: &mut BitReader, head: Head) -> Result<(), ReadRefusal>
-    requires { (reader.old.position ≡ 16) × ((length reader.old.bytes.now ≡ sheet_size head.arcs) × ((head.arcs ≤ 256) × (head.sites ≡ sites_in reader.old.bytes.now))) }
+    requires after_head { reader.old.position ≡ 16 }
+    requires size { length reader.old.bytes.now ≡ sheet_size head.arcs }
+    requires few { head.arcs ≤ 256 }
+    requires sites { head.sites ≡ sites_in reader.old.bytes.now }
     ensures { told result ≡ first_failed (flat_map (arc_checks reader.old.bytes.now) (range_with_len 0 head.arcs)) }
 {
     for _i in 0..head.arcs {
@@ -99,13 +96,15 @@ fn copied(bytes: &[u8]) -> [u8; MOST_BYTES]
     ensures { take (length bytes.now) result ≡ bytes.now }
 {
     let mut copy = [0; MOST_BYTES];
-    copy[0..bytes.len()].copy_from_slice(bytes);
+    copy[..bytes.len()].copy_from_slice(bytes);
     copy
 }
 
 // The sheet of bytes that passed the checks.
 fn keep(bytes: &[u8], head: Head) -> Sheet
-    requires { (is_ok (read_answer bytes.now) ≡ true) × ((head.sites ≡ sites_in bytes.now) × (head.arcs ≡ arcs_in bytes.now)) }
+    requires passed { is_ok (read_answer bytes.now) ≡ true }
+    requires sites { head.sites ≡ sites_in bytes.now }
+    requires arcs { head.arcs ≡ arcs_in bytes.now }
     ensures { kept_bytes result.arcs result.bytes ≡ bytes.now }
 {
     Sheet {
@@ -122,9 +121,7 @@ impl Sheet {
         ensures writes_back { IfOk result (λ s. sheet_of (sheet_meaning s) ≡ bytes.now) }
     {
         let mut reader = BitReader::new(bytes);
-        let Some(head) = read_head(&mut reader) else {
-            return Err(ReadRefusal::NoHead);
-        };
+        let head = read_head(&mut reader).ok_or(ReadRefusal::NoHead)?;
         check_head(bytes.len(), head)?;
         check_arcs(&mut reader, head)?;
         Ok(keep(bytes, head))

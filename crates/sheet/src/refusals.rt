@@ -26,6 +26,7 @@ pub enum ReadRefusal {
 impl Refusal for ReadRefusal {
     ghost told = { read_told };
 
+    // A match, since a variant that carries a position has no number to cast.
     fn number(&self) -> u32 {
         match self {
             ReadRefusal::NoHead => 1,

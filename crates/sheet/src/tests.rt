@@ -8,10 +8,7 @@ use std::test::Fail;
 const ONE_ARC: [u8; 10] = [0x08, 0x01, 0x00, 0x10, 0x02, 0x00, 0x30, 0x04, 0x05, 0x0A];
 
 fn refused(bytes: &[u8]) -> Option<ReadRefusal> {
-    match Sheet::read(bytes) {
-        Ok(_) => None,
-        Err(refusal) => Some(refusal),
-    }
+    Sheet::read(bytes).err()
 }
 
 #[test]

@@ -6,41 +6,38 @@ ghost use Rattle.sheet.specs.Layout.{sheet_size, write_answer, write_told, buffe
 ghost use Rattle.sheet.specs.Steps.{head_bytes, word_bytes, arcs_bytes};
 
 use super::refusals::WriteRefusal;
-use super::words::encode_arc;
+use super::sheet::size_of_sheet;
+use super::words::ArcWord;
 use network::Network;
-
-// How many bytes a sheet of so many arcs has.
-fn size_of_sheet(arcs: u16) -> usize
-    ensures { result ≡ sheet_size arcs }
-{
-    2 + 8 * usize::from(arcs)
-}
 
 // Writes a head into the first two bytes.
 fn put_head(buffer: &mut [u8], sites: u8, arcs: u16)
-    requires { (2 ≤ length buffer.old) × ((sites ≤ 64) × (arcs ≤ 256)) }
+    requires room { 2 ≤ length buffer.old }
+    requires few_sites { sites ≤ 64 }
+    requires few_arcs { arcs ≤ 256 }
     ensures { buffer.new ≡ head_bytes sites arcs ++ drop 2 buffer.old }
 {
     let head = u16::from(sites) * 512 + arcs;
-    buffer[0..2].copy_from_slice(&head.to_be_bytes());
+    buffer[..2].copy_from_slice(&head.to_be_bytes());
 }
 
 // Writes a word into the eight bytes from a place on.
-fn put_word(buffer: &mut [u8], at: usize, word: u64)
+fn put_word(buffer: &mut [u8], at: usize, word: ArcWord)
     requires { at + 8 ≤ length buffer.old }
-    ensures { buffer.new ≡ take at buffer.old ++ (word_bytes word ++ drop (at + 8) buffer.old) }
+    ensures { buffer.new ≡ take at buffer.old ++ (word_bytes word.0 ++ drop (at + 8) buffer.old) }
 {
     buffer[at..at + 8].copy_from_slice(&word.to_be_bytes());
 }
 
-// Writes every arc, the first after the first two bytes.
+// Writes every arc, the first after the first two bytes. By number: no proof learns what was written into chunks that a
+// buffer lends one after another.
 fn put_arcs<N: Network>(network: &N, buffer: &mut [u8])
     requires { sheet_size (arc_count (N.Network.meaning network.now)) ≤ length buffer.old }
     ensures { buffer.new ≡ take 2 buffer.old ++ (arcs_bytes (N.Network.meaning network.now).arcs ++ drop (sheet_size (arc_count (N.Network.meaning network.now))) buffer.old) }
 {
     for number in 0..network.arcs() {
         let arc = network.arc(u32::from(number)).unwrap();
-        put_word(buffer, 2 + 8 * usize::from(number), encode_arc(arc));
+        put_word(buffer, 2 + 8 * usize::from(number), ArcWord::from(arc));
     }
 }
 
@@ -52,7 +49,7 @@ pub fn write_sheet<N: Network>(network: &N, buffer: &mut [u8]) -> Result<usize, 
     ensures reads_back { is_ok result ≡ true → read_answer (take (sheet_size (arc_count (N.Network.meaning network.now))) buffer.new) ≡ Ok (N.Network.meaning network.now) }
 {
     let arcs = network.arcs();
-    let size = size_of_sheet(arcs);
+    let size = size_of_sheet(u32::from(arcs));
     if buffer.len() < size {
         return Err(WriteRefusal::BufferTooShort);
     }

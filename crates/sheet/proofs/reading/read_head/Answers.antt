@@ -1,22 +1,19 @@
 -- The first field is the number of sites, and the second that of arcs.
-use Rattle.std.proofs.Common.{◌≡◌, Some, refl, ap, ◌∙◌, arith}
-use Rattle.sheet.specs.FieldsLemmas.{handed_out, was_left, moved_on, left_parts}
+use Rattle.std.proofs.Common.{◌≡◌, Some, ap, ◌∙◌, arith}
+use Rattle.sheet.specs.Fields.{next_field, next_position}
+use Rattle.sheet.specs.FieldsLemmas.{handed_out, left_parts}
 use Rattle.sheet.specs.Sound.{head_found}
 use Rattle.sheet.proofs.reading.read_head.Goals as goal
 
-pub returns : goal.returns
-returns c =
+pub returns-clause-head : goal.returns-clause-head
+returns-clause-head c =
     let bytes = c.args.reader.now.bytes.now in
-    let start = c.args.reader.now.position in
-    let left = was_left bytes bytes 0 start 7 c.in-Some.sites refl c.requires c.in-Some.ensures.value in
-    let sites = handed_out bytes bytes 0 start 7 (Some c.in-Some.sites) c.in-Some.sites refl c.requires left c.in-Some.ensures.value refl in
-    let at = moved_on bytes bytes 0 start 7 c.field.new.self.position refl c.requires left c.field.ensures.position in
+    let sites = c.in_ok-field.field-0 in
+    let arcs = c.in_ok-field-2.field-0 in
+    let first = handed_out bytes 0 7 sites (c.in_ok-field.ensures.value ∙ ap (λ q. next_field bytes q 7) c.requires) in
+    let at : c.field.new.self.position ≡ 7 = c.field.ensures.position ∙ (ap (λ q. next_position bytes q 7) c.requires ∙ first.2) in
     let same : c.field.new.self.bytes.now ≡ bytes = ap (λ x. x.now) c.field.ensures.bytes in
-    let left-2 = was_left bytes c.field.new.self.bytes.now 7 c.field.new.self.position 9 c.in-Some-field.arcs same at c.in-Some-field.ensures.value in
-    let arcs = handed_out bytes c.field.new.self.bytes.now 7 c.field.new.self.position 9 (Some c.in-Some-field.arcs) c.in-Some-field.arcs same at left-2 c.in-Some-field.ensures.value refl in
-    let parts = left_parts bytes 7 9 left-2 in
-    record {
-      head = head_found bytes c.in-Some.sites.value c.in-Some-field.arcs.value (ap (λ f. f.value) sites) (ap (λ f. f.value) arcs) (omega arith);
-      position = λ _. moved_on bytes c.field.new.self.bytes.now 7 c.field.new.self.position 9 c.field-2.new.self.position same at left-2 c.field-2.ensures.position;
-      bytes = c.field-2.ensures.bytes ∙ c.field.ensures.bytes;
-    }
+    let next : Some arcs ≡ next_field bytes 7 9 = c.in_ok-field-2.ensures.value ∙ (ap (λ xs. next_field xs c.field.new.self.position 9) same ∙ ap (λ q. next_field bytes q 9) at) in
+    let second = handed_out bytes 7 9 arcs next in
+    let parts = left_parts bytes 7 9 second.1 in
+    head_found bytes sites.value arcs.value (ap (λ f. f.value) first.0) (ap (λ f. f.value) second.0) (omega arith)

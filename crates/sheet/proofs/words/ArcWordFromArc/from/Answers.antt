@@ -1,7 +1,7 @@
 -- The word of an arc, field by field.
 use Rattle.std.proofs.Common.{◌<◌, arith, rules}
 use Rattle.sheet.specs.Arcs.{word_of_arc}
-use Rattle.sheet.proofs.words.encode_arc.Goals as goal
+use Rattle.sheet.proofs.words.ArcWordFromArc.from.Goals as goal
 
 pub returns : goal.returns
 returns c =

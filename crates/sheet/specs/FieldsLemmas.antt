@@ -1,13 +1,14 @@
 -- Fields of a row of bytes: how large one is, one bit more, and a field within a longer one.
-use Rattle.std.specs.Prelude.{◌≡◌, ℕ, ◌+◌, ◌-◌, ◌*◌, ◌/◌, ◌%◌, ◌^◌, ◌<◌, ◌≤◌, Bool, true, false, cond, List, ◌++◌, length, take, drop, Some, None, nat_le, nat_lt, slice_index, refl}
+use Rattle.std.specs.Prelude.{◌≡◌, ℕ, zero, suc, ◌+◌, ◌-◌, ◌*◌, ◌/◌, ◌%◌, ◌^◌, ◌<◌, ◌≤◌, Bool, true, false, cond, List, ◌∷◌, ◌++◌, map, length, take, drop, Some, None, Option, nat_le, nat_lt, slice_index, refl}
 use Rattle.std.proofs.Common.{sym, ap, ◌∙◌, arith, length-drop, take-append-drop, pow_mono, length-take-le, take-take, get_or-drop}
+use Rattle.std.specs.List.{range_with_len}
 use Rattle.std.proofs.ByRecursion.{All-take, All-drop}
-use Rattle.std.proofs.lemmas.List.{drop-drop, drop-take}
+use Rattle.std.proofs.lemmas.List.{drop-drop, drop-take, drop_more}
 use Rattle.std.proofs.lemmas.List.Sums.{fold_more}
-use Rattle.std.proofs.lemmas.Bool.{and_parts, leb-true, ltb-true}
+use Rattle.std.proofs.lemmas.Bool.{and_parts, and_from, leb-true, ltb-true, le-leb, lt-ltb, cond-true}
 use Rattle.sheet.specs.declared.reader.Field.{Field}
 use Rattle.sheet.specs.Bits.{number, bits_of, field}
-use Rattle.sheet.specs.Fields.{bits_there, bits_left, next_field, next_position}
+use Rattle.sheet.specs.Fields.{bits_there, bits_left, next_field, next_position, skip_position}
 use Rattle.sheet.specs.Steps.{field_at}
 use Rattle.sheet.specs.Rows.{Row, number_take_lt, number_middle}
 use Rattle.sheet.specs.Bytes.{length_bits_of, row_bits_of, bits_of_take, bits_of_drop}
@@ -35,6 +36,13 @@ field_more bytes p w h =
 -- a field of no more than so many bits
 pub field_below : (bytes : List ℕ) (p w n : ℕ) → w ≤ n → field bytes p w < 2 ^ n
 field_below bytes p w n h = let f = field_lt bytes p w in omega (arith, pow_mono h)
+
+-- so many items from a place on
+pub window : (n at : ℕ) (xs : List ℕ) → at + n ≤ length xs → take n (drop at xs) ≡ map (λ i. slice_index xs i) (range_with_len at n)
+window zero at xs h = refl
+window (suc n) at xs h =
+    let l : at < length xs = omega arith in
+    ap (take (suc n)) (drop_more xs at 0 l) ∙ ap (λ ys. slice_index xs at ∷ ys) (window n (at + 1) xs (omega arith))
 
 -- a field of whole bytes
 pub field_of_bytes : (n at : ℕ) (bytes : List ℕ) → field bytes (8 * at) (8 * n) ≡ number (bits_of (take n (drop at bytes)))
@@ -73,9 +81,47 @@ field_within bytes p n o w t e h =
     ∙ (ap (λ k. number whole / 2 ^ length zs % 2 ^ k) (sym of_ys)
     ∙ (two ∙ ap number (middle bs n o w (omega arith) ∙ ap (take w) (drop-drop o p (bits_of bytes)))))
 
--- what the reader handed out stood at the position, and the bits were left
-pub handed_out : (bytes : List ℕ) (p w : ℕ) (f : Field) → Some f ≡ next_field bytes p w → (f ≡ field_at bytes p w) × (bits_left bytes p w ≡ true) × (next_position bytes p w ≡ p + w)
-handed_out bytes p w f e = go (bits_left bytes p w) e
+-- a shorter part of bits that are there
+pub there_within : (bytes : List ℕ) (p n o w : ℕ) → bits_there bytes p n ≡ true → o + w ≤ n → bits_there bytes (p + o) w ≡ true
+there_within bytes p n o w there h =
+    let both = there_parts bytes p n there in
+    and_from (nat_lt (p + o + w) (2 ^ 32)) (nat_le (p + o + w) (8 * length bytes)) (lt-ltb (p + o + w) (2 ^ 32) (omega arith)) (le-leb (p + o + w) (8 * length bytes) (omega arith))
+
+pub left_within : (bytes : List ℕ) (p n o w : ℕ) → bits_there bytes p n ≡ true → o + w ≤ n → w ≤ 32 → bits_left bytes (p + o) w ≡ true
+left_within bytes p n o w there h small =
+    and_from (nat_le w 32) (bits_there bytes (p + o) w) (le-leb w 32 small) (there_within bytes p n o w there h)
+
+-- what the reader hands out where the bits are left
+pub handed_out : (bytes bytes' : List ℕ) (p p' w : ℕ) (r : Option Field) (f : Field) → bytes' ≡ bytes → p' ≡ p → bits_left bytes p w ≡ true → r ≡ next_field bytes' p' w → r ≡ Some f → f ≡ field_at bytes p w
+handed_out bytes bytes' p p' w r f eb ep left e is =
+    let there : next_field bytes p w ≡ Some (field_at bytes p w) = cond-true (bits_left bytes p w) (Some (field_at bytes p w)) None left in
+    let same : next_field bytes' p' w ≡ next_field bytes p w = ap (λ xs. next_field xs p' w) eb ∙ ap (λ q. next_field bytes q w) ep in
+    some_same (sym is ∙ (e ∙ (same ∙ there)))
+  where
+    some_same : {a b : Field} → Some a ≡ Some b → a ≡ b
+    some_same e = cc
+
+-- what was handed out stands at the position, and the bits were left
+pub was_left : (bytes bytes' : List ℕ) (p p' w : ℕ) (f : Field) → bytes' ≡ bytes → p' ≡ p → Some f ≡ next_field bytes' p' w → bits_left bytes p w ≡ true
+was_left bytes bytes' p p' w f eb ep e =
+    go (bits_left bytes p w) refl (e ∙ (ap (λ xs. next_field xs p' w) eb ∙ ap (λ q. next_field bytes q w) ep))
+  where
+    go : (b : Bool) → bits_left bytes p w ≡ b → Some f ≡ cond b (Some (field_at bytes p w)) None → bits_left bytes p w ≡ true
+    go true is some = is
+    go false is some = absurd (let z : ◌≡◌ {A = ℕ} 0 1 = cc in omega arith)
+
+-- where the reader stands then
+pub moved_on : (bytes bytes' : List ℕ) (p p' w q : ℕ) → bytes' ≡ bytes → p' ≡ p → bits_left bytes p w ≡ true → q ≡ next_position bytes' p' w → q ≡ p + w
+moved_on bytes bytes' p p' w q eb ep left e =
+    e ∙ (ap (λ xs. next_position xs p' w) eb ∙ (ap (λ r. next_position bytes r w) ep ∙ cond-true (bits_left bytes p w) (p + w) p left))
+
+pub passed_over : (bytes bytes' : List ℕ) (p p' w q : ℕ) → bytes' ≡ bytes → p' ≡ p → bits_there bytes p w ≡ true → q ≡ skip_position bytes' p' w → q ≡ p + w
+passed_over bytes bytes' p p' w q eb ep there e =
+    e ∙ (ap (λ xs. skip_position xs p' w) eb ∙ (ap (λ r. skip_position bytes r w) ep ∙ cond-true (bits_there bytes p w) (p + w) p there))
+
+-- a field that the reader hands out stands at its position, its bits were left, and the reader stands behind it
+pub field_found : (bytes : List ℕ) (p w : ℕ) (f : Field) → Some f ≡ next_field bytes p w → (f ≡ field_at bytes p w) × (bits_left bytes p w ≡ true) × (next_position bytes p w ≡ p + w)
+field_found bytes p w f e = go (bits_left bytes p w) e
   where
     go : (b : Bool) → Some f ≡ cond b (Some (field_at bytes p w)) None → (f ≡ field_at bytes p w) × (b ≡ true) × (cond b (p + w) p ≡ p + w)
     go true some = (cc, refl, refl)

@@ -1,22 +1,22 @@
 -- What passes the checks is a network, and is written as the same bytes.
-use Rattle.std.specs.Prelude.{◌≡◌, ℕ, ◌+◌, ◌*◌, ◌<◌, ◌≤◌, true, not, ◌||◌, List, ◌++◌, length, take, drop, is_ok, Some, None, ◌==◌, nat_le, nat_lt}
+use Rattle.std.specs.Prelude.{◌≡◌, ℕ, ◌+◌, ◌*◌, ◌<◌, ◌≤◌, Bool, true, false, cond, not, ◌||◌, List, ◌++◌, length, take, drop, is_ok, Some, None, Ok, Err, Option, ◌==◌, nat_le, nat_lt, refl}
 use Rattle.std.proofs.Common.{sym, ap, ◌∙◌, arith, length-drop, take-append-drop, take_all, length-take-le}
 use Rattle.std.specs.List.{range_with_len, flat_map}
 use Rattle.std.proofs.lemmas.List.FromFn.{length-map-range_with_len, get_or-map-range_with_len}
 use Rattle.std.proofs.ByRecursion.{All-from_get_or, All-take, All-drop}
 use Rattle.std.proofs.lemmas.List.{drop-drop}
-use Rattle.std.proofs.lemmas.Option.{slice_get-get_or}
+use Rattle.std.proofs.lemmas.Option.{slice_get-get_or, slice_get_past}
 use Rattle.std.proofs.lemmas.Bool.{ltb-false, leb-false, eqb-false, eqb-true, or_parts, not-false, cond-false, le-ltb}
-use Rattle.network.specs.Checks.{first_failed, refusal, refusal_at}
+use Rattle.network.specs.Checks.{Told, first_failed, answered, refusal, refusal_at}
 use Rattle.network.specs.Net.{ArcFits, WellFormed, arc_count, arc_of, no_arc}
 use Rattle.sheet.specs.declared.reading.Head.{Head}
 use Rattle.sheet.specs.Bits.{bits, bits_of, bytes_of, field}
 use Rattle.sheet.specs.Layout.{arc_bits, sheet_bits, sheet_of, sheet_size, kept_bytes, arc_in, net_in, sites_in, arcs_in, arc_checks, read_checks, read_answer, from_position, to_position}
-use Rattle.sheet.specs.Steps.{head_in, end_checks, field_at}
+use Rattle.sheet.specs.Steps.{head_in, head_checks, end_checks, field_at}
 use Rattle.sheet.specs.Rows.{bits_number}
 use Rattle.sheet.specs.Bytes.{Bytes, length_bits_of, row_bits_of, bytes_of_bits_of}
 use Rattle.sheet.specs.FieldsLemmas.{field_lt}
-use Rattle.sheet.specs.Passes.{passes, each_passes, ok_passes}
+use Rattle.sheet.specs.Passes.{passes, each_passes, ok_passes, append_fails, first_failed_append}
 use Rattle.sheet.specs.Layouts.{arcs_bits_in}
 
 -- what the checks say of bytes that pass them
@@ -42,6 +42,10 @@ sound bytes ok =
       size = eqb-true (length bytes) (sheet_size (arcs_in bytes)) (not-false (length bytes == sheet_size (arcs_in bytes)) size.0);
       arcs_pass = size.1;
     }
+
+-- bytes that pass the checks mean the network in them
+pub ok_answer : (bytes : List ℕ) → is_ok (read_answer bytes) ≡ true → read_answer bytes ≡ Ok (net_in bytes)
+ok_answer bytes ok = ap (λ o. answered o (net_in bytes)) (ok_passes (first_failed (read_checks bytes)) (net_in bytes) ok)
 
 arc_fits : (bytes : List ℕ) (i : ℕ) → first_failed (arc_checks bytes i) ≡ None → ArcFits (sites_in bytes) (arc_in bytes i)
 arc_fits bytes i e =
@@ -119,6 +123,9 @@ arc_found bytes i h =
     slice_get-get_or (net_in bytes).arcs i no_arc (omega arith)
     ∙ ap (λ a. Some a) (get_or-map-range_with_len (arc_in bytes) 0 (arcs_in bytes) i i no_arc h (omega arith))
 
+pub arc_past : (bytes : List ℕ) (i : ℕ) → arcs_in bytes ≤ i → arc_of (net_in bytes) i ≡ None
+arc_past bytes i h = let count = count_in bytes in slice_get_past (net_in bytes).arcs i (omega arith)
+
 -- the checks of an arc, at the place where the reader finds it
 pub arc_checks_are :
     (bytes bytes' : List ℕ) (p i n : ℕ) → bytes' ≡ bytes → p ≡ 16 + 64 * i → n ≡ sites_in bytes →
@@ -143,3 +150,41 @@ head_found bytes n m en em long =
     ap (λ k. Some (head_of k m)) en
     ∙ (ap (λ k. Some (head_of (sites_in bytes) k)) em
     ∙ sym (cond-false (nat_lt (length bytes) 2) None (Some (head_of (sites_in bytes) (arcs_in bytes))) (le-ltb (length bytes) 2 long)))
+
+-- the numbers that are read in a head, and that there is one
+pub head_there : (bytes : List ℕ) (head : Head) → Some head ≡ head_in bytes → (head.sites ≡ sites_in bytes) × (head.arcs ≡ arcs_in bytes) × (2 ≤ length bytes)
+head_there bytes head e = go (nat_lt (length bytes) 2) refl e
+  where
+    some_same : {a b : Head} → Some a ≡ Some b → a ≡ b
+    some_same s = cc
+
+    go : (b : Bool) → nat_lt (length bytes) 2 ≡ b → Some head ≡ cond b None (Some (head_of (sites_in bytes) (arcs_in bytes))) → (head.sites ≡ sites_in bytes) × (head.arcs ≡ arcs_in bytes) × (2 ≤ length bytes)
+    go true is some = absurd (let z : ◌≡◌ {A = ℕ} 0 1 = cc in omega arith)
+    go false is some =
+        let same = some_same some in (ap (λ h. h.sites) same, ap (λ h. h.arcs) same, ltb-false (length bytes) 2 is)
+
+-- what reading answers, by the checks of the head and of the arcs
+module _ (bytes : List ℕ) (head : Head) (en : head.sites ≡ sites_in bytes) (em : head.arcs ≡ arcs_in bytes) (long : 2 ≤ length bytes) where
+  answer_is :
+      (o : Option Told) →
+      first_failed (head_checks (length bytes) (head_of (sites_in bytes) (arcs_in bytes)) ++ flat_map (arc_checks bytes) (range_with_len 0 (arcs_in bytes))) ≡ o →
+      read_answer bytes ≡ answered o (net_in bytes)
+  answer_is o e =
+      ap (λ x. answered x (net_in bytes)) (cond-false (nat_lt (length bytes) 2) (Some (refusal 1)) _ (le-ltb (length bytes) 2 long) ∙ e)
+
+  of_head : first_failed (head_checks (length bytes) head) ≡ first_failed (head_checks (length bytes) (head_of (sites_in bytes) (arcs_in bytes)))
+  of_head = ap (λ k. first_failed (head_checks (length bytes) (head_of k head.arcs))) en ∙ ap (λ k. first_failed (head_checks (length bytes) (head_of (sites_in bytes) k))) em
+
+  pub refused_head : (t : Told) → Some t ≡ first_failed (head_checks (length bytes) head) → read_answer bytes ≡ Err t
+  refused_head t e =
+      answer_is (Some t)
+      (append_fails (head_checks (length bytes) (head_of (sites_in bytes) (arcs_in bytes))) (flat_map (arc_checks bytes) (range_with_len 0 (arcs_in bytes))) t (sym (e ∙ of_head)))
+
+  pub by_arcs :
+      (o : Option Told) (bytes' : List ℕ) → bytes' ≡ bytes → None ≡ first_failed (head_checks (length bytes) head) →
+      o ≡ first_failed (flat_map (arc_checks bytes') (range_with_len 0 head.arcs)) →
+      read_answer bytes ≡ answered o (net_in bytes)
+  by_arcs o bytes' eb pass e =
+      answer_is o
+      (first_failed_append (head_checks (length bytes) (head_of (sites_in bytes) (arcs_in bytes))) (flat_map (arc_checks bytes) (range_with_len 0 (arcs_in bytes))) (sym (pass ∙ of_head))
+      ∙ sym (e ∙ (ap (λ xs. first_failed (flat_map (arc_checks xs) (range_with_len 0 head.arcs))) eb ∙ ap (λ k. first_failed (flat_map (arc_checks bytes) (range_with_len 0 k))) em)))

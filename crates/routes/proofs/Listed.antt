@@ -45,14 +45,6 @@ rows_listed model net e work notebook ended =
     ∙ sym (row_there notebook (get_or work.finished j 0) one.0 one.1 ∙ ap row_on one.2)))
 
 module _ {K L : Type 0} (model : K → Model L) (net : Net) (e : Enquiry K) (law : Lawful (model e.kind)) (wf : WellFormed net) (asked : Asked net e) where
-  -- a listed route has at most 15 arcs
-  listed_few : (r : List ℕ) → In r (route_list model net e) → length r ≤ 15
-  listed_few r i =
-      let all = sort (route_order model net e) (feasible_routes net e) in
-      let feasible = from_sort (route_order model net e) (feasible_routes net e) r (from_take e.wanted all r i) in
-      let admitted = feasible_admitted model net e law wf asked.source_there r feasible in
-      omega (arith, few_hops model net e asked.few_hops r admitted.1, asked.few_hops)
-
   -- no more routes are listed than are wanted
   pub listed_wanted : length (route_list model net e) ≤ e.wanted
   listed_wanted = take_few e.wanted (sort (route_order model net e) (feasible_routes net e))
@@ -61,7 +53,4 @@ module _ {K L : Type 0} (model : K → Model L) (net : Net) (e : Enquiry K) (law
   pub listed_inside : (work : Work) (notebook : List (Line L)) → Ended model net e work notebook → PlacesInside notebook work.finished work.routes
   listed_inside work notebook ended j h =
       let one = ended.each j h in
-      let r = get_or (route_list model net e) j [] in
-      let few : length r ≤ 15 = listed_few r (in_get_or (route_list model net e) j [] (omega (arith, ended.routes, h))) in
-      let long : length one.0.arcs ≡ 15 = ap (λ (l : Line L). length l.arcs) one.2 ∙ length-append r (replicate (15 - length r) 0) ∙ ap (λ n. length r + n) (length-replicate (15 - length r) 0) ∙ omega arith in
-      (one.0, one.1, long)
+      (one.0, one.1)

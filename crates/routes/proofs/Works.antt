@@ -14,14 +14,14 @@ use Rattle.routes.specs.declared.line.Line.{Line}
 use Rattle.routes.specs.declared.taking.Work.{Work}
 use Rattle.routes.specs.Routes.{at_site, is_complete, end_of, extended, is_path, route_list, some_site}
 use Rattle.routes.specs.Partial.{admissible_of, line_count, partial_routes, is_partial, taken, written}
-use Rattle.routes.specs.Lines.{Asked, OnLine, line_of, line_route, next_line, is_writable}
+use Rattle.routes.specs.Lines.{Asked, OnLine, line_of, next_line, is_writable}
 use Rattle.routes.specs.Choice.{AllTaken, FirstLine}
 use Rattle.routes.specs.Work.{Completed, Noted, OneLine, WorkDone, marked, notebook_after, used_after}
 use Rattle.routes.proofs.Lines.{Admitted, at_place, in_admissible_of}
 use Rattle.routes.proofs.Noted.{few_of, noted_mark, noted_write}
 use Rattle.routes.proofs.Parents.{some_there}
 use Rattle.routes.proofs.Places.{unique_take}
-use Rattle.routes.proofs.Progress.{admissible_append, admissible_push, counting_split, kept_push, new_line, next_is, none_more, route_on, written_so_far}
+use Rattle.routes.proofs.Progress.{admissible_append, admissible_push, counting_split, kept_push, new_line, next_is, none_more, written_so_far}
 use Rattle.routes.proofs.Taken.{taken_lists_the_routes}
 use Rattle.routes.proofs.Written.{complete_of, lines_more, lines_so_far, taken_end, partial_once, taken_stop, written_empty, written_more, written_once}
 
@@ -48,7 +48,7 @@ module _ {K L : Type 0} (model : K → Model L) (net : Net) (e : Enquiry K) wher
     pub more : k < length (partial_routes model net e)
     pub away : is_complete net e (get_or (partial_routes model net e) k []) ≡ false
     pub on : OnLine model net e line
-    pub route : line_route line ≡ get_or (partial_routes model net e) k []
+    pub route : line.arcs ≡ get_or (partial_routes model net e) k []
     pub noted : Noted model net e (written model net e (take k (partial_routes model net e)) ++ admissible_of model net e (map (λ n. get_or (partial_routes model net e) k [] ++ n ∷ []) (range_with_len 0 i)))
         (take (k + 1) (partial_routes model net e)) notebook used
     pub few : used ≤ lines
@@ -215,8 +215,8 @@ module _ {K L : Type 0} (model : K → Model L) (net : Net) (e : Enquiry K) wher
       admitted : Admitted model net e (get_or PR k [])
       admitted = at_place model net e law wf asked.source_there asked.few_hops k step_more
 
-      route_is : line_route line ≡ get_or PR k []
-      route_is = ap line_route line_is ∙ route_on model net e line.taken (get_or PR k [])
+      route_is : line.arcs ≡ get_or PR k []
+      route_is = ap (λ (l : Line L). l.arcs) line_is
 
       pub step_on : OnLine model net e line
       step_on =
@@ -350,11 +350,11 @@ module _ {K L : Type 0} (model : K → Model L) (net : Net) (e : Enquiry K) wher
               )
 
           -- one arc more was tried
-          pub wider : Some used' ≡ used_after (next_line model net e (line_route line) i) used lines → after ≡ notebook_after (next_line model net e (line_route line) i) used lines notebook
+          pub wider : Some used' ≡ used_after (next_line model net e line.arcs i) used lines → after ≡ notebook_after (next_line model net e line.arcs i) used lines notebook
               → Widening lines k (i + 1) used' found after finished line
           unfolding Note longer
           wider u a =
-              let at : next_line model net e (line_route line) i ≡ next_line model net e (get_or PR k []) i = ap (λ r. next_line model net e r i) wide.route in
+              let at : next_line model net e line.arcs i ≡ next_line model net e (get_or PR k []) i = ap (λ r. next_line model net e r i) wide.route in
               let both = by_test (is_writable model net e (get_or PR k [] ++ i ∷ [])) refl (u ∙ ap (λ o. used_after o used lines) at) (a ∙ ap (λ o. notebook_after o used lines notebook) at) in
               record {
                 more = wide.more;
@@ -368,10 +368,10 @@ module _ {K L : Type 0} (model : K → Model L) (net : Net) (e : Enquiry K) wher
               }
 
         -- a line is wanted and there is none
-        pub too_few : None ≡ used_after (next_line model net e (line_route line) i) used lines → lines < line_count model net e
+        pub too_few : None ≡ used_after (next_line model net e line.arcs i) used lines → lines < line_count model net e
         unfolding longer
         too_few u =
-            let at : next_line model net e (line_route line) i ≡ next_line model net e (get_or PR k []) i = ap (λ r. next_line model net e r i) wide.route in
+            let at : next_line model net e line.arcs i ≡ next_line model net e (get_or PR k []) i = ap (λ r. next_line model net e r i) wide.route in
             by_room (is_writable model net e (get_or PR k [] ++ i ∷ [])) refl (u ∙ ap (λ o. used_after o used lines) at)
           where
             grows : length (longer (i + 1)) ≤ length (admissible_of model net e (extended net (get_or PR k [])))

@@ -17,11 +17,8 @@ marked line =
     record {
       length = line.length;
       projected = line.projected;
-      delay = line.delay;
-      jitter = line.jitter;
-      charge = line.charge;
+      totals = line.totals;
       arcs = line.arcs;
-      count = line.count;
       end = line.end;
       taken = true;
     }

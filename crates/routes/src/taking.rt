@@ -1,19 +1,15 @@
 // The work of an enquiry: lines are taken in order, and for each the partial routes one arc longer are written, until enough
 // routes are taken or no line is left.
-ghost use Rattle.std.specs.Prelude.{◌≡◌, ◌<◌, ◌≤◌, true, false, cond, [], length, Some, None};
+ghost use Rattle.std.specs.Prelude.{◌≡◌, ◌≤◌, length};
 ghost use Rattle.network.specs.Copies.{copy_meaning};
-ghost use Rattle.routes.specs.Lines.{Asked, OnLine, RestsHold, line_of, line_route, next_line, is_writable};
-ghost use Rattle.routes.specs.Routes.{is_complete};
 ghost use Rattle.routes.specs.Work.{WorkDone, notebook_after, used_after};
 
 use super::choosing::next_line;
-use super::enquiry::Enquiry;
-use super::extending::{extended, start};
-use super::filling::LentTables;
+use super::extending::Search;
 use super::line::Line;
 use super::noting::{mark_taken, write_line};
 use length::Kind;
-use network::{Network, NetworkCopy};
+use network::Network;
 
 // What the work comes to: the places of the lines of the routes, how many there are, and how many lines were used.
 #[derive(Clone, Copy)]
@@ -30,7 +26,8 @@ fn note<L: Copy>(
     used: usize,
     lines: usize,
 ) -> Option<usize>
-    requires { (used ≤ lines) × (lines ≤ length notebook.old) }
+    requires used { used ≤ lines }
+    requires room { lines ≤ length notebook.old }
     ensures used { result ≡ used_after line used lines }
     ensures notebook { notebook.new ≡ notebook_after line used lines notebook.old }
 {
@@ -49,21 +46,18 @@ fn note<L: Copy>(
 // Takes lines in order until as many routes are taken as are wanted, or none is left. None where the notebook has fewer lines
 // than the work takes.
 pub(super) fn take_lines<K: Kind>(
-    network: &NetworkCopy,
-    enquiry: &Enquiry<K>,
-    rests: &LentTables<'_, K::Length>,
+    search: &Search<'_, '_, K>,
     notebook: &mut [Line<K::Length>],
     lines: usize,
 ) -> Option<Work>
-    requires asked { Asked (copy_meaning network.now) enquiry.now }
-    requires rests { RestsHold K.Kind.model (copy_meaning network.now) enquiry.now rests.now }
-    requires lines { lines ≤ length notebook.old }
-    ensures { WorkDone K.Kind.model (copy_meaning network.now) enquiry.now result notebook.new lines }
+    requires { lines ≤ length notebook.old }
+    ensures { WorkDone K.Kind.model (copy_meaning search.now.network.now) search.now.enquiry.now result notebook.new lines }
 {
     let mut finished = [0usize; 32];
     let mut routes = 0usize;
     let mut done = 0usize;
-    let mut used = note(notebook, start(enquiry, rests), 0, lines)?;
+    let enquiry = search.enquiry;
+    let mut used = note(notebook, search.start(), 0, lines)?;
     'taking: while let Some(at) = next_line(&enquiry.kind, &*notebook, used) {
         let line = mark_taken(notebook, at);
         done += 1;
@@ -75,13 +69,8 @@ pub(super) fn take_lines<K: Kind>(
             }
             continue 'taking;
         }
-        for number in 0..network.arcs() {
-            used = note(
-                notebook,
-                extended(network, enquiry, rests, &line, number as u8),
-                used,
-                lines,
-            )?;
+        for number in 0..search.network.arcs() {
+            used = note(notebook, search.extended(&line, number as u8), used, lines)?;
         }
     }
     Some(Work {

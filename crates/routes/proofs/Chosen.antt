@@ -1,8 +1,9 @@
 -- The choice among the lines looked at, one line more; and the order of lines.
-use Rattle.std.proofs.Common.{◌≡◌, Bor, ℕ, zero, suc, ◌+◌, ◌<◌, Bool, true, false, not, ◌||◌, T, ◌⊎◌, List, [], ◌∷◌, take, Some, None, Option, sym, refl, ap, ◌∙◌, subst, inl, inr, ⊎_elim, arith}
+use Rattle.std.proofs.Common.{◌≡◌, Bor, ℕ, zero, suc, ◌+◌, ◌<◌, ◌≤◌, Bool, true, false, not, ◌||◌, T, ◌⊎◌, List, [], ◌∷◌, length, take, Some, None, Option, sym, refl, ap, ◌∙◌, subst, inl, inr, ⊎_elim, arith}
 use borrow.Author.Tests.{clash}
 use Rattle.std.specs.List.{slice_get}
 use Rattle.std.specs.Option.{option_map}
+use Rattle.std.proofs.lemmas.List.{length-take}
 use Rattle.std.proofs.lemmas.Bool.{and_from, and_parts, cases_lt, or_cases, not-true}
 use Rattle.network.specs.ListsLemmas.{some_same}
 use Rattle.network.specs.Lists.{place_by_place}
@@ -37,22 +38,34 @@ module _ {L : Type 0} (m : Model L) where
   beats line None = true
   beats line (Some best) = line_before m line best.1.now
 
-  pub sound_taken : (notebook : List (Line L)) (used : ℕ) → AllSound m notebook used → AllSound m (take used notebook) used
-  sound_taken notebook used sound j line h at = sound j line h (sym (slice_get-take used notebook j h) ∙ at)
+  -- the best of all lines is the choice
+  pub best_chosen : (lines : List (Line L)) (all looked : ℕ) (best : Option (ℕ × Bor (Line L))) → looked ≡ all → Best lines looked best
+      → Chosen m lines all (option_map (λ b. b.0) best)
+  best_chosen lines all looked None e every = subst (λ n. AllTaken m lines n) e every
+  best_chosen lines all looked (Some best) e (f, at_best) = subst (λ n. FirstLine m lines n best.0) e f
 
-  -- the best of all lines used is the choice
-  pub best_chosen : (notebook : List (Line L)) (used looked : ℕ) (best : Option (ℕ × Bor (Line L))) → looked ≡ used → Best (take used notebook) looked best
-      → Chosen m notebook used (option_map (λ b. b.0) best)
-  best_chosen notebook used looked None e every = λ j line h at. every j line (omega arith) (slice_get-take used notebook j h ∙ at)
-  best_chosen notebook used looked (Some best) e (f, at_best) =
-      let inside : best.0 < used = omega (arith, f.inside) in
-      record {
-        line = f.line;
-        there = sym (slice_get-take used notebook best.0 inside) ∙ f.there;
-        inside = inside;
-        untaken = f.untaken;
-        first = λ j other h at. f.first j other (omega arith) (slice_get-take used notebook j h ∙ at);
-      }
+  module _ (notebook : List (Line L)) (used : ℕ) (lines : List (Line L)) (are : lines ≡ take used notebook) where
+    below : (j : ℕ) → j < length lines → j < used
+    below j h = omega (arith, ap length are, length-take used notebook)
+
+    same_line : (j : ℕ) → j < used → slice_get lines j ≡ slice_get notebook j
+    same_line j h = ap (λ l. slice_get l j) are ∙ slice_get-take used notebook j h
+
+    -- the lines used are sound
+    pub sound_used : AllSound m notebook used → AllSound m lines (length lines)
+    sound_used sound j line h at = sound j line (below j h) (sym (same_line j (below j h)) ∙ at)
+
+    -- what is chosen of the lines used is chosen of the notebook
+    pub chosen_used : (choice : Option ℕ) → used ≤ length notebook → Chosen m lines (length lines) choice → Chosen m notebook used choice
+    chosen_used None room every = λ j line h at. every j line (omega (arith, ap length are, length-take used notebook)) (same_line j h ∙ at)
+    chosen_used (Some at) room f =
+        record {
+          line = f.line;
+          there = sym (same_line at (below at f.inside)) ∙ f.there;
+          inside = below at f.inside;
+          untaken = f.untaken;
+          first = λ j other h here. f.first j other (omega (arith, ap length are, length-take used notebook)) (same_line j h ∙ here);
+        }
 
 module _ {L : Type 0} (m : Model L) (law : Lawful m) where
   -- what it says that a line may stand before another

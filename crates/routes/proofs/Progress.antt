@@ -1,7 +1,7 @@
 -- Taking lines: which line is next, that none is left out, and what is new when a line is taken.
-use Rattle.std.proofs.Common.{◌≡◌, ℕ, zero, suc, ◌+◌, ◌-◌, ◌<◌, ◌≤◌, Bool, true, false, cond, not, ◌&&◌, ◌||◌, T, List, [], ◌∷◌, ◌++◌, length, get_or, take, drop, replicate, Some, filter, Option, unwrap_or, sym, refl, ap, ◌∙◌, subst, inl, inr, add-zero, suc-add, zero-add, arith}
+use Rattle.std.proofs.Common.{◌≡◌, ℕ, zero, suc, ◌+◌, ◌<◌, ◌≤◌, Bool, true, false, cond, not, ◌&&◌, ◌||◌, T, List, [], ◌∷◌, ◌++◌, length, get_or, take, drop, Some, filter, Option, unwrap_or, sym, refl, ap, ◌∙◌, subst, inl, inr, add-zero, suc-add, zero-add, arith}
 use Rattle.std.specs.List.{range_with_len}
-use Rattle.std.proofs.lemmas.List.{append-nil, get_or-take, length-append, length-replicate, length-take, take-append-drop, take_at, take-take}
+use Rattle.std.proofs.lemmas.List.{append-nil, get_or-take, length-take, take-append-drop, take-take}
 use Rattle.network.specs.ListsLemmas.{some_same}
 use Rattle.network.specs.Lists.{In, place_by_place}
 use Rattle.network.specs.Net.{Net, WellFormed}
@@ -13,7 +13,7 @@ use Rattle.routes.specs.Partial.{admissible_of, is_admissible, no_longer, partia
 use Rattle.routes.specs.Lines.{Asked, line_of, is_writable}
 use Rattle.routes.specs.Choice.{AllSound, AllTaken, FirstLine, Sound, line_before}
 use Rattle.routes.specs.Work.{Noted}
-use Rattle.routes.proofs.Lines.{Admitted, few_hops, first_is_written, projects, written_admitted}
+use Rattle.routes.proofs.Lines.{Admitted, first_is_written, projects, written_admitted}
 use Rattle.routes.proofs.Noted.{in_index, in_left, in_right}
 use Rattle.routes.proofs.Places.{in_get_or}
 use Rattle.routes.proofs.Sorting.{Unique}

@@ -1,5 +1,5 @@
 -- The line that the code makes of a partial route is its line: that of the empty one, and that of one arc longer.
-use Rattle.std.proofs.Common.{◌≡◌, ℕ, ◌<◌, Bool, true, false, cond, not, ◌&&◌, eqb, ltb, leb, List, [], ◌∷◌, ◌++◌, length, get_or, is_some, Some, None, Option, unwrap_or, sym, refl, ap, ◌∙◌}
+use Rattle.std.proofs.Common.{◌≡◌, ℕ, ◌<◌, Bool, true, false, cond, not, ◌&&◌, eqb, ltb, leb, List, [], ◌∷◌, ◌++◌, length, get_or, Some, None, Option, unwrap_or, sym, refl, ap, ◌∙◌}
 use Rattle.std.specs.Option.{option_map}
 use Rattle.std.proofs.lemmas.Bool.{and_parts, lt-ltb, ltb-true}
 use Rattle.network.specs.declared.arc.Arc.{Arc}
@@ -11,7 +11,6 @@ use Rattle.length.specs.declared.standard.StandardKind.TheVariants.{Delay, Jitte
 use Rattle.length.specs.Model.{Model, Lawful}
 use Rattle.length.specs.Standard.{standard}
 use Rattle.length.specs.Walks.{usable, sites_along, walk_length, arc_length}
-use Rattle.length.specs.Least.{least_total}
 use Rattle.length.specs.Lawful.{standard_lawful}
 use Rattle.length.proofs.Least.{to_below}
 use Rattle.length.proofs.Walks.{walk_push}
@@ -20,8 +19,8 @@ use Rattle.routes.specs.declared.line.Line.{Line}
 use Rattle.routes.specs.declared.filling.LentTables.{LentTables}
 use Rattle.routes.specs.Totals.{limits_of}
 use Rattle.routes.specs.Routes.{end_of}
-use Rattle.routes.specs.Partial.{is_admissible, at_most, is_partial, projected, projected_length, rest_from}
-use Rattle.routes.specs.Lines.{Asked, HoldsRests, RestsHold, following_arc, is_writable, line_of, line_within, next_line, stretched, totals_of, totals_with, totals_within}
+use Rattle.routes.specs.Partial.{is_admissible, at_most, is_partial, projected, rest_from}
+use Rattle.routes.specs.Lines.{HoldsRests, RestsHold, following_arc, line_of, line_within, next_line, stretched, totals_of, totals_with, totals_within}
 use Rattle.routes.proofs.Parents.{test, walk_in}
 use Rattle.routes.proofs.Steps.{and_true, can_follow, end_step, partial_step}
 
@@ -48,15 +47,15 @@ module _ {K L : Type 0} (model : K → Model L) (net : Net) (e : Enquiry K) (res
         ≡ elim o as (λ _. Option (Line L)) [
           | None ↦ None
           | Some rest ↦ cond (totals_within (totals_of net arcs) e.limits rests u)
-            (Some (record {
-              length = walk_length (model e.kind) net arcs;
-              projected = (model e.kind).join (walk_length (model e.kind) net arcs) rest;
-              totals = totals_of net arcs;
-              arcs = arcs;
-              end = u;
-              taken = false;
-            }))
-            None
+              (Some (record {
+                length = walk_length (model e.kind) net arcs;
+                projected = (model e.kind).join (walk_length (model e.kind) net arcs) rest;
+                totals = totals_of net arcs;
+                arcs = arcs;
+                end = u;
+                taken = false;
+              }))
+              None
         ]
     by_rest None q = rw q refl
     by_rest (Some rest) q = rw (q, limits) (ap (λ o. cond (totals_within (totals_of net arcs) e.limits rests u)

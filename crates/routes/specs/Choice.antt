@@ -1,5 +1,5 @@
 -- Which line of a notebook is taken next: of those not taken yet, the first in the order of projected length and arc numbers.
-use Rattle.std.specs.Prelude.{◌≡◌, ℕ, ◌<◌, ◌≤◌, Bool, true, false, not, ◌&&◌, ◌||◌, T, List, length, Some, None, Option}
+use Rattle.std.specs.Prelude.{◌≡◌, ℕ, ◌<◌, Bool, true, false, not, ◌&&◌, ◌||◌, T, List, Some, None, Option}
 use Rattle.std.specs.List.{slice_get}
 use Rattle.network.specs.Lists.{place_by_place}
 use Rattle.length.specs.Model.{Model}

@@ -91,7 +91,7 @@ module _ {L : Type 0} (m : Model L) (limits : Limits) (rests : LentTables L) whe
       elim (slice_index_or rests.length.now end None) [
         | None ↦ None
         | Some rest ↦ cond (totals_within totals limits rests end)
-          (Some (record { length = length; projected = m.join length rest; totals = totals; arcs = arcs; end = end; taken = false })) None
+            (Some (record { length = length; projected = m.join length rest; totals = totals; arcs = arcs; end = end; taken = false })) None
       ]
 
   -- a line made longer by an arc, where there is room for its number and the destination can be reached within the limits

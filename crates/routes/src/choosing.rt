@@ -1,5 +1,5 @@
 // Which line of a notebook is taken next.
-ghost use Rattle.std.specs.Prelude.{◌≡◌, ◌≤◌, length};
+ghost use Rattle.std.specs.Prelude.{◌≡◌, length};
 ghost use Rattle.network.specs.Lists.{place_by_place};
 ghost use Rattle.routes.specs.Choice.{AllSound, Chosen, line_before};
 
@@ -22,17 +22,11 @@ fn comes_first<K: Kind>(kind: &K, a: &Line<K::Length>, b: &Line<K::Length>) -> b
             || arcs_first(a.arcs.as_slice(), b.arcs.as_slice()))
 }
 
-// The place of the line that is taken next, or none where every line used is taken.
-pub(super) fn next_line<K: Kind>(
-    kind: &K,
-    notebook: &[Line<K::Length>],
-    used: usize,
-) -> Option<usize>
-    requires sound { AllSound (K.Kind.model kind.now) notebook.now used }
-    requires room { used ≤ length notebook.now }
-    ensures { Chosen (K.Kind.model kind.now) notebook.now used result }
+// The place of the line that is taken next, or none where every line is taken.
+pub(super) fn next_line<K: Kind>(kind: &K, lines: &[Line<K::Length>]) -> Option<usize>
+    requires { AllSound (K.Kind.model kind.now) lines.now (length lines.now) }
+    ensures { Chosen (K.Kind.model kind.now) lines.now (length lines.now) result }
 {
-    let lines = &notebook[..used];
     let mut best: Option<(usize, &Line<K::Length>)> = None;
     for (place, line) in lines.iter().enumerate() {
         if !line.taken && best.is_none_or(|(_, first)| comes_first(kind, line, first)) {

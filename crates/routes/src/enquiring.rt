@@ -9,7 +9,7 @@ use super::checking::{Sizes, early_checks};
 use super::enquiry::{Enquiry, Found, RouteRow};
 use super::extending::Search;
 use super::filling::{LentTables, fill_tables};
-use super::line::Line;
+use super::line::{Line, Notebook};
 use super::listing::list_rows;
 use super::refusals::EnquiryRefusal;
 use super::taking::take_lines;
@@ -35,12 +35,13 @@ fn find_routes<K: Kind>(
     ensures answer { outcome (λ x. x) enquiry_told result ≡ routes_answer K.Kind.model (copy_meaning search.now.network.now) search.now.enquiry.now (length notebook.old) }
     ensures list { list.new ≡ routes_list K.Kind.model (copy_meaning search.now.network.now) search.now.enquiry.now (length notebook.old) list.old }
 {
-    let lines = notebook.len().min(4096);
-    let work = take_lines(search, notebook, lines).ok_or(EnquiryRefusal::TooFewLines)?;
-    list_rows(&*notebook, &work, list);
+    let count = notebook.len().min(4096);
+    let mut lines = Notebook::of(&mut notebook[..count]);
+    let finished = take_lines(search, &mut lines).ok_or(EnquiryRefusal::TooFewLines)?;
+    list_rows(lines.lines_used(), finished.as_slice(), list);
     Ok(Found {
-        routes: work.routes as u32,
-        lines: work.lines as u32,
+        routes: finished.len() as u32,
+        lines: lines.used as u32,
     })
 }
 

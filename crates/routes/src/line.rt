@@ -1,5 +1,5 @@
-// Lines of a notebook.
-ghost use Rattle.std.specs.Prelude.{◌≡◌};
+// Lines of a notebook, and a notebook as the work writes it.
+ghost use Rattle.std.specs.Prelude.{◌≡◌, ◌≤◌, length};
 ghost use Rattle.routes.specs.Lines.{blank_line};
 
 use super::totals::Totals;
@@ -32,4 +32,12 @@ impl<L: Copy> Line<L> {
             taken: false,
         }
     }
+}
+
+// A notebook, of which the first lines are used.
+#[derive(Drop)]
+pub(super) struct Notebook<'a, L> {
+    pub(super) lines: &'a mut [Line<L>],
+    pub(super) used: usize,
+    ghost room: { used ≤ length lines.now },
 }

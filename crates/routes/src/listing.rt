@@ -4,7 +4,6 @@ ghost use Rattle.routes.specs.Rows.{PlacesInside, row_on, rows_at};
 
 use super::enquiry::RouteRow;
 use super::line::Line;
-use super::taking::Work;
 
 // The row of a line.
 fn row_of<L: Copy>(line: &Line<L>) -> RouteRow
@@ -19,14 +18,13 @@ fn row_of<L: Copy>(line: &Line<L>) -> RouteRow
     }
 }
 
-// Writes the rows of the routes into the first places of a list.
-pub(super) fn list_rows<L: Copy>(notebook: &[Line<L>], work: &Work, list: &mut [RouteRow])
-    requires few { work.now.routes ≤ 32 }
-    requires room { work.now.routes ≤ length list.old }
-    requires places { PlacesInside notebook.now work.now.finished work.now.routes }
-    ensures { list.new ≡ rows_at notebook.now work.now.finished work.now.routes ++ drop work.now.routes list.old }
+// Writes the rows of the lines at these places into the first rows of a list.
+pub(super) fn list_rows<L: Copy>(notebook: &[Line<L>], places: &[usize], list: &mut [RouteRow])
+    requires room { length places.now ≤ length list.old }
+    requires inside { PlacesInside notebook.now places.now }
+    ensures { list.new ≡ rows_at notebook.now places.now ++ drop (length places.now) list.old }
 {
-    for (row, place) in work.finished[..work.routes].iter().enumerate() {
+    for (row, place) in places.iter().enumerate() {
         list[row] = row_of(&notebook[*place]);
     }
 }

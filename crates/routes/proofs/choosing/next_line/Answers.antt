@@ -1,10 +1,9 @@
 -- Each turn looks at one line more.
-use Rattle.std.proofs.Common.{◌≡◌, ◌+◌, Bool, length, take, sym, refl, ◌∙◌, subst, rules, tests, arith}
-use Rattle.std.proofs.lemmas.List.{length-take}
+use Rattle.std.proofs.Common.{◌≡◌, ◌+◌, length, sym, refl, ◌∙◌, subst, rules, tests, arith}
 use Rattle.std.proofs.lemmas.Option.{slice_get_read}
 use Rattle.std.specs.Option.{option_map}
 use Rattle.routes.specs.Choice.{AllSound, Chosen}
-use Rattle.routes.proofs.Chosen.{Best, best_chosen, beats, sound_taken, stays, stays_before, takes_over}
+use Rattle.routes.proofs.Chosen.{Best, best_chosen, beats, stays, stays_before, takes_over}
 use Rattle.routes.proofs.choosing.next_line.Goals as goal
 use Rattle.routes.proofs.choosing.next_line.Goals.{then-not-line+then-is_none_or, else-not-line, else-not-line-via-then-not-line+else-is_none_or, else-not-line-via-else-not-line}
 
@@ -13,12 +12,12 @@ loop-place-preserved g c =
     let kind = c.args.kind.now in
     let m = g.K.Kind.model kind in
     let law = g.met.K.Kind.lawful kind in
-    let lines = take c.args.used c.args.notebook.now in
+    let lines = c.args.lines.now in
     let place = c.loop-place.place in
     let best = c.loop-place.best in
     let line = c.index-lines-place.result in
     let there = slice_get_read lines (length lines) place line refl c.loop-place-test.true c.index-lines-place.is in
-    let sound : AllSound m lines (place + 1) = λ j other h at. sound_taken m c.args.notebook.now c.args.used c.requires.sound j other (omega (arith, c.loop-place-test.true, length-take c.args.used c.args.notebook.now)) at in
+    let sound : AllSound m lines (place + 1) = λ j other h at. c.requires j other (omega (arith, c.loop-place-test.true)) at in
     elim c.if-not-line.branch [
       | then-not-line+then-is_none_or w ↦
           let is : w.is_none_or.result ≡ beats m line best = search (rules, tests) in
@@ -38,5 +37,4 @@ returns g c =
     let m = g.K.Kind.model c.args.kind.now in
     let best = c.loop-place.best in
     let is : c.map.result ≡ option_map (λ b. b.0) best = search (rules, tests) in
-    let all : c.loop-place.place ≡ c.args.used = omega (arith, length-take c.args.used c.args.notebook.now) in
-    subst (Chosen m c.args.notebook.now c.args.used) (sym is) (best_chosen m c.args.notebook.now c.args.used c.loop-place.place best all c.loop-place.invariant)
+    subst (Chosen m c.args.lines.now (length c.args.lines.now)) (sym is) (best_chosen m c.args.lines.now (length c.args.lines.now) c.loop-place.place best (omega arith) c.loop-place.invariant)

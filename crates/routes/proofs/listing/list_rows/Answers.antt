@@ -1,23 +1,36 @@
 -- Each turn writes one row more, and after the last all are written.
-use Rattle.std.proofs.Common.{◌≡◌, ◌<◌, length, get_or, take, sym, refl, ap, ◌∙◌, subst, arith, take_all}
-use Rattle.std.proofs.lemmas.List.FromFn.{get_or-map-range_with_len, length-map-range_with_len}
-use Rattle.std.proofs.lemmas.List.{get_or-take, length-take}
-use Rattle.std.proofs.lemmas.Option.{slice_get_read, slice_get_within}
+use Rattle.std.proofs.Common.{◌≡◌, ◌<◌, length, get_or, refl, sym, ◌∙◌, arith, take_all}
+use Rattle.std.proofs.lemmas.List.{get_or-map, length-map}
+use Rattle.std.proofs.lemmas.Option.{slice_get_read}
 use Rattle.network.specs.ListsLemmas.{enter_at}
 use Rattle.routes.specs.Rows.{no_row, row_at, rows_at}
 use Rattle.routes.proofs.Listed.{row_there}
 use Rattle.routes.proofs.listing.list_rows.Goals as goal
 
 pub bounds-notebook-place : goal.bounds-notebook-place
-bounds-notebook-place g c =
-    let work = c.args.work.now in
-    let i = c.loop-row.row in
-    let inside : i < work.routes = omega (arith, c.loop-row-test.true, length-take work.routes work.finished) in
-    let one = c.requires.places i inside in
-    subst (λ n. n < length c.args.notebook.now) (sym (get_or-take work.routes work.finished i 0 inside)) (slice_get_within c.args.notebook.now (get_or work.finished i 0) one.0 one.1)
+bounds-notebook-place g c = c.requires.inside c.loop-row.row c.loop-row-test.true
 
 pub loop-row-preserved : goal.loop-row-preserved
-loop-row-preserved g c = ?
+loop-row-preserved g c =
+    let notebook = c.args.notebook.now in
+    let places = c.args.places.now in
+    let i = c.loop-row.row in
+    let rows = rows_at notebook places in
+    let long = length-map places (row_at notebook) in
+    let there = slice_get_read notebook (length notebook) (get_or places i 0) c.index-notebook-place.result refl (c.requires.inside i c.loop-row-test.true) c.index-notebook-place.is in
+    let is : get_or rows i no_row ≡ c.row_of.result =
+    get_or-map (row_at notebook) places i 0 no_row c.loop-row-test.true
+    ∙ row_there notebook (get_or places i 0) c.index-notebook-place.result there ∙ sym c.row_of.ensures in
+    let inside : i < length rows = omega (arith, c.loop-row-test.true) in
+    let room : i < length c.args.list.now = omega (arith, c.requires.room, c.loop-row-test.true) in
+    enter_at rows c.args.list.now c.loop-row.list i i c.row_of.result no_row c.loop-row.invariant refl inside room is
 
 pub returns : goal.returns
-returns g c = ?
+returns g c =
+    let notebook = c.args.notebook.now in
+    let places = c.args.places.now in
+    let rows = rows_at notebook places in
+    let long = length-map places (row_at notebook) in
+    let last : c.loop-row.row ≡ length places = omega arith in
+    let whole = take_all (length places) rows (omega arith) in
+    rw whole at (rw last at c.loop-row.invariant)

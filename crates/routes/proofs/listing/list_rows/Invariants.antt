@@ -4,4 +4,4 @@ use Rattle.routes.specs.Rows.{rows_at}
 use Rattle.routes.proofs.listing.list_rows.Given as goal
 
 abbrev pub invariant-loop-row : goal.invariant-loop-row
-invariant-loop-row g l = l.list ≡ take l.row (rows_at l.notebook l.work.finished l.work.routes) ++ drop l.row l.initial.list
+invariant-loop-row g l = l.list ≡ take l.row (rows_at l.notebook l.places) ++ drop l.row l.initial.list

@@ -43,10 +43,9 @@ impl<K: Kind> Search<'_, '_, K> {
         requires { there (copy_meaning self.now.network.now) line.now.arcs ≡ true }
         ensures { result ≡ following_arc (copy_meaning self.now.network.now) self.now.enquiry.now line.now number }
     {
-        let arc = self.network.arc(u32::from(number))?;
-        if u32::from(arc.capacity) < self.enquiry.width || arc.from != line.end {
-            return None;
-        }
+        let arc = self.network.arc(u32::from(number)).filter(|arc| {
+            u32::from(arc.capacity) >= self.enquiry.width && arc.from == line.end
+        })?;
         (!self.meets(line, arc.to)).then_some(arc)
     }
 
@@ -63,17 +62,16 @@ impl<K: Kind> Search<'_, '_, K> {
     {
         let rests = self.rests;
         let rest = rest_at(&*rests.length, end)?;
-        if !totals.within(self.enquiry.limits, rests, end) {
-            return None;
-        }
-        Some(Line {
-            length,
-            projected: self.enquiry.kind.join(length, rest),
-            totals,
-            arcs,
-            end,
-            taken: false,
-        })
+        totals
+            .within(self.enquiry.limits, rests, end)
+            .then(|| Line {
+                length,
+                projected: self.enquiry.kind.join(length, rest),
+                totals,
+                arcs,
+                end,
+                taken: false,
+            })
     }
 
     // The line of the empty partial route, where that is written down.

@@ -22,6 +22,7 @@ pub(super) fn take_lines<K: Kind>(
 {
     let enquiry = search.enquiry;
     let mut finished = ArrayVec::new();
+    // how many lines were taken, by which the loop is seen to end
     let mut done = 0usize;
     notebook.note(search.start())?;
     'taking: while let Some(at) = next_line(&enquiry.kind, notebook.lines_used()) {

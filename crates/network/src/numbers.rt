@@ -46,6 +46,13 @@ impl ArcNumbers {
         &self.places[..usize::from(self.count)]
     }
 
+    // How many there are.
+    pub fn len(&self) -> u8
+        ensures { result ≡ length self.now }
+    {
+        self.count
+    }
+
     // The numbers in 15 places, 0 in those after the last number.
     pub fn places(&self) -> [u8; 15]
         ensures { result ≡ self.now ++ replicate (15 - length self.now) 0 }

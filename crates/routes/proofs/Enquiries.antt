@@ -4,7 +4,7 @@ use borrow.Author.Tests.{clash}
 use Rattle.std.proofs.lemmas.List.FromFn.{get_or-map-range_with_len, length-map-range_with_len}
 use Rattle.std.proofs.lemmas.List.{get_or_append_left, length-append}
 use Rattle.std.proofs.lemmas.Bool.{eqb-false, leb-false, le-ltb, lt-ltb, ltb-true}
-use Rattle.network.specs.Checks.{Told, first_failed, refusal}
+use Rattle.network.specs.Checks.{Told, answered, first_failed, refusal}
 use Rattle.network.specs.Net.{Net}
 use Rattle.network.specs.ListsLemmas.{none_some}
 use Rattle.length.specs.Model.{Model}
@@ -19,6 +19,15 @@ use Rattle.routes.specs.Sizes.{size_checks}
 passed_one : (b : Bool) (t : Told) (rest : Option Told) → cond b (Some t) rest ≡ None → (b ≡ false) × (rest ≡ None)
 passed_one true t rest h = absurd (none_some (sym h))
 passed_one false t rest h = (refl, h)
+
+-- what the result of checks tells
+pub checks_failed : (o : Option Told) (t : Told) → Err t ≡ answered {A = Unit {0}} o tt → o ≡ Some t
+checks_failed None t q = cc
+checks_failed (Some r) t q = cc
+
+pub checks_passed : (o : Option Told) → Ok tt ≡ answered {A = Unit {0}} o tt → o ≡ None
+checks_passed None q = refl
+checks_passed (Some r) q = cc
 
 neither : (a b : Bool) → (a || b) ≡ false → (a ≡ false) × (b ≡ false)
 neither true b h = absurd (clash (sym h))

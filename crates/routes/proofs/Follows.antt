@@ -7,14 +7,14 @@ use Rattle.network.specs.Net.{Net, arc_at, arc_count}
 use Rattle.length.specs.Walks.{sites_along, usable}
 use Rattle.routes.specs.declared.enquiry.Enquiry.{Enquiry}
 use Rattle.routes.specs.declared.line.Line.{Line}
-use Rattle.routes.specs.Lines.{following_arc, line_route}
+use Rattle.routes.specs.Lines.{following_arc}
 
 module _ {K L : Type 0} (net : Net) (e : Enquiry K) (line : Line L) (i : ℕ) where
   fits : Bool
   fits = usable net e.width i && eqb (arc_at net i).from line.end
 
   met : Bool
-  met = among (arc_at net i).to (sites_along net e.source (line_route line))
+  met = among (arc_at net i).to (sites_along net e.source line.arcs)
 
   by_parts : (b c : Bool) → fits ≡ b → met ≡ c → following_arc net e line i ≡ cond (b && not c) (Some (arc_at net i)) None
   unfolding fits met
@@ -41,10 +41,10 @@ module _ {K L : Type 0} (net : Net) (e : Enquiry K) (line : Line L) (i : ℕ) wh
           (and_from _ _ (lt-ltb i (arc_count net) there) (ap (λ a. leb e.width a.capacity) is ∙ le-leb e.width arc.capacity room))
           (ap (λ a. eqb a.from line.end) is ∙ eq-eqb arc.from line.end begins)
 
-      pub met_before : (b : Bool) → b ≡ true → b ≡ among arc.to (sites_along net e.source (line_route line)) → None ≡ following_arc net e line i
+      pub met_before : (b : Bool) → b ≡ true → b ≡ among arc.to (sites_along net e.source line.arcs) → None ≡ following_arc net e line i
       unfolding met
-      met_before b t m = sym (by_parts true true fit (ap (λ a. among a.to (sites_along net e.source (line_route line))) is ∙ sym m ∙ t))
+      met_before b t m = sym (by_parts true true fit (ap (λ a. among a.to (sites_along net e.source line.arcs)) is ∙ sym m ∙ t))
 
-      pub may_follow : (b : Bool) → b ≡ false → b ≡ among arc.to (sites_along net e.source (line_route line)) → Some arc ≡ following_arc net e line i
+      pub may_follow : (b : Bool) → b ≡ false → b ≡ among arc.to (sites_along net e.source line.arcs) → Some arc ≡ following_arc net e line i
       unfolding met
-      may_follow b f m = ap Some (sym is) ∙ sym (by_parts true false fit (ap (λ a. among a.to (sites_along net e.source (line_route line))) is ∙ sym m ∙ f))
+      may_follow b f m = ap Some (sym is) ∙ sym (by_parts true false fit (ap (λ a. among a.to (sites_along net e.source line.arcs)) is ∙ sym m ∙ f))

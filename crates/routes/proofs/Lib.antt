@@ -13,11 +13,9 @@ pub mod Written
 pub mod Taken
 pub mod Stretch
 pub mod OnLines
-pub mod Firsts
 pub mod Chosen
 pub mod Noted
 pub mod Progress
-pub mod Starts
 pub mod Works
 pub mod Listed
 pub mod Enquiries

@@ -1,67 +1,40 @@
 -- Rows written one after another, and the rows of the routes that an enquiry asks for.
-use Rattle.std.proofs.Common.{◌≡◌, ℕ, zero, suc, ◌+◌, ◌-◌, ◌<◌, ◌≤◌, List, [], ◌∷◌, map, length, get_or, take, replicate, Some, None, Option, sym, ap, ◌∙◌, arith}
+use Rattle.std.proofs.Common.{◌≡◌, ℕ, ◌<◌, ◌≤◌, List, [], map, length, get_or, take, Some, None, Option, sym, ap, ◌∙◌, arith}
 use Rattle.std.specs.List.{slice_get}
-use Rattle.std.proofs.lemmas.List.FromFn.{fill_by_all}
-use Rattle.std.proofs.lemmas.List.{get_or-map, length-append, length-map, length-replicate}
-use Rattle.network.specs.ListsLemmas.{none_some}
-use Rattle.network.specs.Lists.{In, sort}
-use Rattle.network.specs.Net.{Net, WellFormed}
-use Rattle.length.specs.Model.{Model, Lawful}
+use Rattle.std.proofs.lemmas.List.{ext_get_or, get_or-map, length-map, length-take}
+use Rattle.network.specs.Lists.{sort}
+use Rattle.network.specs.Net.{Net}
+use Rattle.length.specs.Model.{Model}
 use Rattle.routes.specs.declared.enquiry.Enquiry.{Enquiry}
 use Rattle.routes.specs.declared.enquiry.RouteRow.{RouteRow}
 use Rattle.routes.specs.declared.line.Line.{Line}
-use Rattle.routes.specs.declared.taking.Work.{Work}
 use Rattle.routes.specs.Routes.{feasible_routes, route_list, route_order, row_of}
-use Rattle.routes.specs.Lines.{Asked}
 use Rattle.routes.specs.Rows.{PlacesInside, no_row, row_at, row_on, rows_at}
 use Rattle.routes.specs.Work.{Ended}
-use Rattle.routes.proofs.Lines.{few_hops}
-use Rattle.routes.proofs.Places.{in_get_or}
-use Rattle.routes.proofs.Sorting.{from_sort, from_take}
-use Rattle.routes.proofs.Taken.{feasible_admitted}
-
-pub inside_of : {A : Type 0} (xs : List A) (i : ℕ) (x : A) → slice_get xs i ≡ Some x → i < length xs
-inside_of [] i x e = absurd (none_some e)
-inside_of (y ∷ ys) zero x e = omega arith
-inside_of (y ∷ ys) (suc i) x e = let h = inside_of ys i x e in omega arith
+use Rattle.routes.proofs.Chosen.{slice_get-take}
 
 pub row_there : {L : Type 0} (notebook : List (Line L)) (place : ℕ) (line : Line L) → slice_get notebook place ≡ Some line → row_at notebook place ≡ row_on line
 row_there notebook place line e = ap (λ (o : Option (Line _)). elim o as (λ _. RouteRow) [ None ↦ no_row | Some l ↦ row_on l ]) e
 
-pub take_few : {A : Type 0} (k : ℕ) (xs : List A) → length (take k xs) ≤ k
-take_few zero xs = omega arith
-take_few (suc k) [] = omega arith
-take_few (suc k) (x ∷ xs) = let h = take_few k xs in omega arith
+module _ {K L : Type 0} (model : K → Model L) (net : Net) (e : Enquiry K) (finished : List ℕ) (notebook : List (Line L)) (used : ℕ) (ended : Ended model net e finished notebook used)
+    (lines : List (Line L)) (are : lines ≡ take used notebook) where
+  -- the rows of the lines of the routes are the rows of the routes
+  pub rows_listed : rows_at lines finished ≡ map (row_of net) (route_list model net e)
+  rows_listed =
+      ext_get_or no_row (rows_at lines finished) (map (row_of net) (route_list model net e))
+      (length-map finished (row_at lines) ∙ ended.routes ∙ sym (length-map (route_list model net e) (row_of net)))
+      (λ j h.
+      let inside : j < length finished = omega (arith, length-map finished (row_at lines)) in
+      let one = ended.each j inside in
+      let place = get_or finished j 0 in
+      get_or-map (row_at lines) finished j 0 no_row inside
+      ∙ row_there lines place one.0 (ap (λ l. slice_get l place) are ∙ slice_get-take used notebook place (ended.inside j inside) ∙ one.1) ∙ ap row_on one.2
+      ∙ sym (get_or-map (row_of net) (route_list model net e) j [] no_row (omega (arith, ended.routes))))
 
--- the rows of the lines of the routes are the rows of the routes
-pub rows_listed : {K L : Type 0} (model : K → Model L) (net : Net) (e : Enquiry K) (work : Work) (notebook : List (Line L)) → Ended model net e work notebook
-    → rows_at notebook work.finished work.routes ≡ map (row_of net) (route_list model net e)
-rows_listed model net e work notebook ended =
-    sym (fill_by_all (λ j. row_at notebook (get_or work.finished j 0)) (map (row_of net) (route_list model net e)) work.routes no_row
-    (length-map (route_list model net e) (row_of net) ∙ sym ended.routes)
-    (λ j h.
-    let one = ended.each j h in
-    get_or-map (row_of net) (route_list model net e) j [] no_row (omega (arith, ended.routes))
-    ∙ sym (row_there notebook (get_or work.finished j 0) one.0 one.1 ∙ ap row_on one.2)))
+  -- the lines of the routes are among those used
+  pub listed_inside : used ≤ length notebook → PlacesInside lines finished
+  listed_inside room j h = omega (arith, ended.inside j h, ap length are, length-take used notebook)
 
-module _ {K L : Type 0} (model : K → Model L) (net : Net) (e : Enquiry K) (law : Lawful (model e.kind)) (wf : WellFormed net) (asked : Asked net e) where
-  -- a listed route has at most 15 arcs
-  listed_few : (r : List ℕ) → In r (route_list model net e) → length r ≤ 15
-  listed_few r i =
-      let all = sort (route_order model net e) (feasible_routes net e) in
-      let feasible = from_sort (route_order model net e) (feasible_routes net e) r (from_take e.wanted all r i) in
-      let admitted = feasible_admitted model net e law wf asked.source_there r feasible in
-      omega (arith, few_hops model net e asked.few_hops r admitted.1, asked.few_hops)
-
-  -- no more routes are listed than are wanted
-  pub listed_wanted : length (route_list model net e) ≤ e.wanted
-  listed_wanted = take_few e.wanted (sort (route_order model net e) (feasible_routes net e))
-
-  -- the lines of the routes are inside the notebook
-  pub listed_inside : (work : Work) (notebook : List (Line L)) → Ended model net e work notebook → PlacesInside notebook work.finished work.routes
-  listed_inside work notebook ended j h =
-      let one = ended.each j h in
-      let r = get_or (route_list model net e) j [] in
-      let few : length r ≤ 15 = listed_few r (in_get_or (route_list model net e) j [] (omega (arith, ended.routes, h))) in
-      let long : length one.0.arcs ≡ 15 = ap (λ (l : Line L). length l.arcs) one.2 ∙ length-append r (replicate (15 - length r) 0) ∙ ap (λ n. length r + n) (length-replicate (15 - length r) 0) ∙ omega arith in
-      (one.0, one.1, long)
+-- no more routes are listed than are wanted
+pub listed_wanted : {K L : Type 0} (model : K → Model L) (net : Net) (e : Enquiry K) → length (route_list model net e) ≤ e.wanted
+listed_wanted model net e = omega (arith, length-take e.wanted (sort (route_order model net e) (feasible_routes net e)))

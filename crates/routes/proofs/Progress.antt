@@ -1,7 +1,7 @@
 -- Taking lines: which line is next, that none is left out, and what is new when a line is taken.
-use Rattle.std.proofs.Common.{◌≡◌, ℕ, zero, suc, ◌+◌, ◌-◌, ◌<◌, ◌≤◌, Bool, true, false, cond, not, ◌&&◌, ◌||◌, T, List, [], ◌∷◌, ◌++◌, length, get_or, take, drop, replicate, Some, filter, Option, unwrap_or, sym, refl, ap, ◌∙◌, subst, inl, inr, add-zero, suc-add, zero-add, arith}
+use Rattle.std.proofs.Common.{◌≡◌, ℕ, zero, suc, ◌+◌, ◌<◌, ◌≤◌, Bool, true, false, cond, not, ◌&&◌, ◌||◌, T, List, [], ◌∷◌, ◌++◌, length, get_or, take, drop, Some, filter, Option, unwrap_or, sym, refl, ap, ◌∙◌, subst, inl, inr, add-zero, suc-add, zero-add, arith}
 use Rattle.std.specs.List.{range_with_len}
-use Rattle.std.proofs.lemmas.List.{append-nil, get_or-take, length-append, length-replicate, length-take, take-append-drop, take_at, take-take}
+use Rattle.std.proofs.lemmas.List.{append-nil, get_or-take, length-take, take-append-drop, take-take}
 use Rattle.network.specs.ListsLemmas.{some_same}
 use Rattle.network.specs.Lists.{In, place_by_place}
 use Rattle.network.specs.Net.{Net, WellFormed}
@@ -10,10 +10,10 @@ use Rattle.routes.specs.declared.enquiry.Enquiry.{Enquiry}
 use Rattle.routes.specs.declared.line.Line.{Line}
 use Rattle.routes.specs.Routes.{is_complete, extended}
 use Rattle.routes.specs.Partial.{admissible_of, is_admissible, no_longer, partial_order, partial_routes, is_partial, projected_length, written}
-use Rattle.routes.specs.Lines.{Asked, line_of, line_route, is_writable}
+use Rattle.routes.specs.Lines.{Asked, line_of, is_writable}
 use Rattle.routes.specs.Choice.{AllSound, AllTaken, FirstLine, Sound, line_before}
 use Rattle.routes.specs.Work.{Noted}
-use Rattle.routes.proofs.Lines.{Admitted, few_hops, first_is_written, projects, written_admitted}
+use Rattle.routes.proofs.Lines.{Admitted, first_is_written, projects, written_admitted}
 use Rattle.routes.proofs.Noted.{in_index, in_left, in_right}
 use Rattle.routes.proofs.Places.{in_get_or}
 use Rattle.routes.proofs.Sorting.{Unique}
@@ -26,20 +26,11 @@ parts_apart (y ∷ more) ys x once (inl e) b = once.0 (in_right more ys y (subst
 parts_apart (y ∷ more) ys x once (inr a) b = parts_apart more ys x once.1 a b
 
 module _ {K L : Type 0} (model : K → Model L) (net : Net) (e : Enquiry K) where
-  -- the route on its line
-  pub route_on : (b : Bool) (p : List ℕ) → line_route (line_of model net e b p) ≡ p
-  route_on b p = take_at p (replicate (15 - length p) 0) (length p) refl
-
   module _ (law : Lawful (model e.kind)) (wf : WellFormed net) (asked : Asked net e) where
     pub line_sound : (b : Bool) (p : List ℕ) → Admitted model net e p → Sound (model e.kind) (line_of model net e b p)
     line_sound b p admitted =
-        let few : length p ≤ 15 = omega (arith, few_hops model net e asked.few_hops p admitted.1, asked.few_hops) in
         let y = projects model net e law wf asked.source_there p admitted.1 in
-        record {
-          long = length-append p (replicate (15 - length p) 0) ∙ ap (λ n. length p + n) (length-replicate (15 - length p) 0) ∙ omega arith;
-          few = few;
-          valid = subst (λ o. T ((model e.kind).valid (unwrap_or o (model e.kind).empty))) (sym y.1) y.2;
-        }
+        record { valid = subst (λ o. T ((model e.kind).valid (unwrap_or o (model e.kind).empty))) (sym y.1) y.2 }
 
     -- lines stand in the order of their partial routes
     pub before_order : (b c : Bool) (p q : List ℕ) → Admitted model net e p → Admitted model net e q
@@ -52,9 +43,9 @@ module _ {K L : Type 0} (model : K → Model L) (net : Net) (e : Enquiry K) wher
         go : (o u : Option L) (x y : L) → o ≡ Some x → u ≡ Some y
             → ((model e.kind).no_longer (unwrap_or o (model e.kind).empty) (unwrap_or u (model e.kind).empty)
             && (not ((model e.kind).no_longer (unwrap_or u (model e.kind).empty) (unwrap_or o (model e.kind).empty))
-            || place_by_place (line_route (line_of model net e b p)) (line_route (line_of model net e c q))))
+            || place_by_place p q))
             ≡ (no_longer (model e.kind) o u && (not (no_longer (model e.kind) u o) || place_by_place p q))
-        go o u x y s t = rw (s, t, route_on b p, route_on c q) refl
+        go o u x y s t = rw (s, t) refl
 
     module _ (k : ℕ) (notebook : List (Line L)) (used : ℕ)
         (noted : Noted model net e (written model net e (take k (partial_routes model net e))) (take k (partial_routes model net e)) notebook used) where

@@ -28,7 +28,7 @@ among_push x [] y = last (eqb x y)
     last false = refl
 among_push x (z ∷ zs) y = ap (λ b. eqb x z || b) (among_push x zs y) ∙ sym (or_assoc (eqb x z) (among x zs) (eqb x y))
 
-eqb_swap : (a b : ℕ) → eqb a b ≡ eqb b a
+pub eqb_swap : (a b : ℕ) → eqb a b ≡ eqb b a
 eqb_swap a b = grind (arith, nat_tests)
 
 shuffle : (m e d n : Bool) → (not (m || e) && (d && not n)) ≡ ((not m && d) && not (e || n))

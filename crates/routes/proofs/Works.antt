@@ -2,7 +2,7 @@
 use Rattle.std.proofs.Common.{◌≡◌, ℕ, ◌+◌, ◌-◌, ◌<◌, ◌≤◌, Bool, true, false, cond, eqb, List, [], ◌∷◌, ◌++◌, map, length, get_or, take, set, Some, None, filter, Option, unwrap_or, sym, refl, ap, ◌∙◌, subst, ⊎_elim, zero-add, arith}
 use Rattle.std.specs.List.{range_with_len, slice_get}
 use Rattle.std.proofs.lemmas.List.FromFn.{map-range_with_len_more}
-use Rattle.std.proofs.lemmas.List.{append_assoc, append-nil, get_or_append_left, get_or_push, get_or-set_other, get_or-set_same, length-append, length_push, length-set, length-take-le, map-append, take_more}
+use Rattle.std.proofs.lemmas.List.{append_assoc, append-nil, get_or_append_left, get_or_push, length-append, length_push, length-set, length-take-le, map-append, take_more}
 use Rattle.std.proofs.lemmas.Bool.{and_from, and_parts, cases_eq, eqb-true, eqb-false}
 use Rattle.network.specs.ListsLemmas.{some_same, none_some}
 use Rattle.network.specs.Lists.{In}
@@ -11,19 +11,27 @@ use Rattle.length.proofs.Members.{in_counting, in_map}
 use Rattle.length.specs.Model.{Model, Lawful}
 use Rattle.routes.specs.declared.enquiry.Enquiry.{Enquiry}
 use Rattle.routes.specs.declared.line.Line.{Line}
-use Rattle.routes.specs.declared.taking.Work.{Work}
 use Rattle.routes.specs.Routes.{at_site, is_complete, end_of, extended, is_path, route_list, some_site}
 use Rattle.routes.specs.Partial.{admissible_of, line_count, partial_routes, is_partial, taken, written}
-use Rattle.routes.specs.Lines.{Asked, OnLine, line_of, line_route, next_line, is_writable}
+use Rattle.routes.specs.Lines.{Asked, OnLine, line_of, next_line, is_writable}
 use Rattle.routes.specs.Choice.{AllTaken, FirstLine}
-use Rattle.routes.specs.Work.{Completed, Noted, OneLine, WorkDone, marked, notebook_after, used_after}
+use Rattle.routes.specs.Work.{Completed, Ended, Noted, OneLine, marked, notebook_after, used_after}
 use Rattle.routes.proofs.Lines.{Admitted, at_place, in_admissible_of}
 use Rattle.routes.proofs.Noted.{few_of, noted_mark, noted_write}
 use Rattle.routes.proofs.Parents.{some_there}
 use Rattle.routes.proofs.Places.{unique_take}
-use Rattle.routes.proofs.Progress.{admissible_append, admissible_push, counting_split, kept_push, new_line, next_is, none_more, route_on, written_so_far}
+use Rattle.routes.proofs.Progress.{admissible_append, admissible_push, counting_split, kept_push, new_line, next_is, none_more, written_so_far}
 use Rattle.routes.proofs.Taken.{taken_lists_the_routes}
 use Rattle.routes.proofs.Written.{complete_of, lines_more, lines_so_far, taken_end, partial_once, taken_stop, written_empty, written_more, written_once}
+
+-- a line written keeps the length
+after_long : {L : Type 0} (o : Option (Line L)) (used lines : ℕ) (notebook : List (Line L)) → length (notebook_after o used lines notebook) ≡ length notebook
+after_long None used lines notebook = refl
+after_long (Some line) used lines notebook = go (eqb used lines)
+  where
+    go : (b : Bool) → length (cond b notebook (set notebook used line)) ≡ length notebook
+    go true = refl
+    go false = length-set notebook used line
 
 module _ {K L : Type 0} (model : K → Model L) (net : Net) (e : Enquiry K) where
   abbrev PR : List (List ℕ)
@@ -36,24 +44,24 @@ module _ {K L : Type 0} (model : K → Model L) (net : Net) (e : Enquiry K) wher
   Done k = filter (is_complete net e) (take k PR)
 
   -- after k lines were taken
-  pub record Working (lines k used found : ℕ) (notebook : List (Line L)) (finished : List ℕ) : Type 0 where
+  pub record Working (lines k used : ℕ) (notebook : List (Line L)) (finished : List ℕ) : Type 0 where
     pub some : k ≤ length (partial_routes model net e)
     pub noted : Noted model net e (written model net e (take k (partial_routes model net e))) (take k (partial_routes model net e)) notebook used
-    pub few : used ≤ lines
-    pub wanting : found < e.wanted
-    pub completed : Completed model net e (written model net e (take k (partial_routes model net e))) (filter (is_complete net e) (take k (partial_routes model net e))) finished found
+    pub long : length notebook ≡ lines
+    pub wanting : length finished < e.wanted
+    pub completed : Completed model net e (written model net e (take k (partial_routes model net e))) (filter (is_complete net e) (take k (partial_routes model net e))) finished
 
   -- while the next of them is made longer, by the arcs below i
-  pub record Widening (lines k i used found : ℕ) (notebook : List (Line L)) (finished : List ℕ) (line : Line L) : Type 0 where
+  pub record Widening (lines k i used : ℕ) (notebook : List (Line L)) (finished : List ℕ) (line : Line L) : Type 0 where
     pub more : k < length (partial_routes model net e)
     pub away : is_complete net e (get_or (partial_routes model net e) k []) ≡ false
     pub on : OnLine model net e line
-    pub route : line_route line ≡ get_or (partial_routes model net e) k []
+    pub route : line.arcs ≡ get_or (partial_routes model net e) k []
     pub noted : Noted model net e (written model net e (take k (partial_routes model net e)) ++ admissible_of model net e (map (λ n. get_or (partial_routes model net e) k [] ++ n ∷ []) (range_with_len 0 i)))
         (take (k + 1) (partial_routes model net e)) notebook used
-    pub few : used ≤ lines
-    pub wanting : found < e.wanted
-    pub completed : Completed model net e (written model net e (take k (partial_routes model net e))) (filter (is_complete net e) (take k (partial_routes model net e))) finished found
+    pub long : length notebook ≡ lines
+    pub wanting : length finished < e.wanted
+    pub completed : Completed model net e (written model net e (take k (partial_routes model net e))) (filter (is_complete net e) (take k (partial_routes model net e))) finished
 
   next_taken : (k : ℕ) → k < length PR → take (k + 1) PR ≡ take k PR ++ get_or PR k [] ∷ []
   next_taken k h = take_more PR k [] h
@@ -75,11 +83,10 @@ module _ {K L : Type 0} (model : K → Model L) (net : Net) (e : Enquiry K) wher
   written_wide k h away = written_more model net e PR k h ∙ ap (λ b. W k ++ cond b [] (admissible_of model net e (extended net (get_or PR k [])))) away
 
   -- places stay places when more is written
-  completed_more : (routes more complete : List (List ℕ)) (finished : List ℕ) (found : ℕ) → Completed model net e routes complete finished found → Completed model net e (routes ++ more) complete finished found
-  completed_more routes more complete finished found done =
+  completed_more : (routes more complete : List (List ℕ)) (finished : List ℕ) → Completed model net e routes complete finished → Completed model net e (routes ++ more) complete finished
+  completed_more routes more complete finished done =
       record {
         count = done.count;
-        places = done.places;
         each = λ j h.
             let one = done.each j h in (
               omega (arith, one.0, length-append routes more),
@@ -88,41 +95,33 @@ module _ {K L : Type 0} (model : K → Model L) (net : Net) (e : Enquiry K) wher
       }
 
   -- one more route is complete
-  completed_push : (routes complete : List (List ℕ)) (route : List ℕ) (finished : List ℕ) (found at : ℕ) → Completed model net e routes complete finished found → found < 32
-      → at < length routes → get_or routes at [] ≡ route → Completed model net e routes (complete ++ route ∷ []) (set finished found at) (found + 1)
-  completed_push routes complete route finished found at done few inside is =
+  completed_push : (routes complete : List (List ℕ)) (route : List ℕ) (finished : List ℕ) (at : ℕ) → Completed model net e routes complete finished
+      → at < length routes → get_or routes at [] ≡ route → Completed model net e routes (complete ++ route ∷ []) (finished ++ at ∷ [])
+  completed_push routes complete route finished at done inside is =
       record {
-        count = rw (length_push complete route) (ap (λ n. n + 1) done.count);
-        places = length-set finished found at ∙ done.places;
-        each = λ j h. ⊎_elim (λ q. here j q) (λ ne. elsewhere j h ne) (cases_eq j found);
+        count = rw (length_push finished at, length_push complete route) (ap (λ n. n + 1) done.count);
+        each = λ j h. ⊎_elim (λ q. here j q) (λ ne. elsewhere j (omega (arith, length_push finished at, ne))) (cases_eq (length finished) j);
       }
     where
-      here : (j : ℕ) → j ≡ found → (get_or (set finished found at) j 0 < length routes) × (get_or routes (get_or (set finished found at) j 0) [] ≡ get_or (complete ++ route ∷ []) j [])
-      here j q =
-          let place : get_or (set finished found at) j 0 ≡ at = ap (λ n. get_or (set finished found at) n 0) q ∙ get_or-set_same finished found at 0 (omega (arith, done.places)) in
-          let last : get_or (complete ++ route ∷ []) j [] ≡ route = ap (λ n. get_or (complete ++ route ∷ []) n []) q ∙ get_or_push complete route [] found (sym done.count) in
-          (omega arith, ap (λ n. get_or routes n []) place ∙ is ∙ sym last)
+      here : (j : ℕ) → length finished ≡ j → (get_or (finished ++ at ∷ []) j 0 < length routes) × (get_or routes (get_or (finished ++ at ∷ []) j 0) [] ≡ get_or (complete ++ route ∷ []) j [])
+      here j q = rw (get_or_push finished at 0 j q, get_or_push complete route [] j (sym done.count ∙ q)) (inside, is)
 
-      elsewhere : (j : ℕ) → j < found + 1 → (j ≡ found → ⊥) → (get_or (set finished found at) j 0 < length routes) × (get_or routes (get_or (set finished found at) j 0) [] ≡ get_or (complete ++ route ∷ []) j [])
-      elsewhere j h ne =
-          let one = done.each j (omega arith) in
-          let place : get_or (set finished found at) j 0 ≡ get_or finished j 0 = get_or-set_other finished found j at 0 ne in
-          let old : get_or (complete ++ route ∷ []) j [] ≡ get_or complete j [] = get_or_append_left complete (route ∷ []) [] j (omega (arith, done.count)) in
-          (omega (arith, one.0), ap (λ n. get_or routes n []) place ∙ one.1 ∙ sym old)
+      elsewhere : (j : ℕ) → j < length finished → (get_or (finished ++ at ∷ []) j 0 < length routes) × (get_or routes (get_or (finished ++ at ∷ []) j 0) [] ≡ get_or (complete ++ route ∷ []) j [])
+      elsewhere j h = rw (get_or_append_left finished (at ∷ []) 0 j h, get_or_append_left complete (route ∷ []) [] j (omega (arith, done.count))) (done.each j h)
 
   module _ (law : Lawful (model e.kind)) (wf : WellFormed net) (asked : Asked net e) where
     -- the start: what is written for the empty partial route
-    pub work_starts : (lines : ℕ) (notebook after : List (Line L)) (used : ℕ) → lines ≤ length notebook
+    pub work_starts : (lines : ℕ) (notebook after : List (Line L)) (used : ℕ) → length notebook ≡ lines
         → Some used ≡ used_after (cond (is_writable model net e []) (Some (line_of model net e false [])) None) 0 lines
         → after ≡ notebook_after (cond (is_writable model net e []) (Some (line_of model net e false [])) None) 0 lines notebook
-        → (finished : List ℕ) → length finished ≡ 32 → Working lines 0 used 0 after finished
-    work_starts lines notebook after used room u a finished places =
+        → Working lines 0 used after []
+    work_starts lines notebook after used room u a =
         record {
           some = omega arith;
           noted = subst (λ r. Noted model net e r [] after used) (sym (written_empty model net e ∙ admissible_push model net e [] [])) (begin (is_writable model net e []) u a);
-          few = small (is_writable model net e []) u;
+          long = ap length a ∙ after_long (cond (is_writable model net e []) (Some (line_of model net e false [])) None) 0 lines notebook ∙ room;
           wanting = asked.some_wanted;
-          completed = record { count = refl; places = places; each = λ j h. absurd (omega arith) };
+          completed = record { count = refl; each = λ j h. absurd (omega arith) };
         }
       where
         none_noted : Noted model net e [] [] notebook 0
@@ -143,14 +142,6 @@ module _ {K L : Type 0} (model : K → Model L) (net : Net) (e : Enquiry K) wher
         begin true u a = one (eqb 0 lines) refl u a
         begin false u a = subst (λ n. Noted model net e [] [] after n) (sym (some_same u)) (subst (λ b. Noted model net e [] [] b 0) (sym a) none_noted)
 
-        small_one : (c : Bool) → eqb 0 lines ≡ c → Some used ≡ cond c None (Some (0 + 1)) → used ≤ lines
-        small_one true q u = absurd (none_some (sym u))
-        small_one false q u = let ne = eqb-false 0 lines q in let is = some_same u in omega arith
-
-        small : (b : Bool) → Some used ≡ used_after (cond b (Some (line_of model net e false [])) None) 0 lines → used ≤ lines
-        small true u = small_one (eqb 0 lines) refl u
-        small false u = let is = some_same u in omega arith
-
     -- the start fails only where a line is wanted and there is none
     pub no_start : (lines : ℕ) → None ≡ used_after (cond (is_writable model net e []) (Some (line_of model net e false [])) None) 0 lines → lines < line_count model net e
     no_start lines u = go (is_writable model net e []) refl u
@@ -168,27 +159,24 @@ module _ {K L : Type 0} (model : K → Model L) (net : Net) (e : Enquiry K) wher
         go false q u = absurd (none_some u)
 
     -- the end, with what was taken
-    pub finish : (lines k used found : ℕ) (notebook : List (Line L)) (finished : List ℕ) → Noted model net e (W k) (take k PR) notebook used → Completed model net e (W k) (Done k) finished found
-        → used ≤ lines → taken model net e ≡ take k PR → (result : Work) → result.finished ≡ finished → result.routes ≡ found → result.lines ≡ used → WorkDone model net e (Some result) notebook lines
-    finish lines k used found notebook finished noted done few all result rf rr rl =
+    pub finish : (lines k used : ℕ) (notebook : List (Line L)) (finished : List ℕ) → Noted model net e (W k) (take k PR) notebook used → Completed model net e (W k) (Done k) finished
+        → length notebook ≡ lines → taken model net e ≡ take k PR → Ended model net e finished notebook used × (line_count model net e ≤ lines)
+    finish lines k used notebook finished noted done long all =
         let count : line_count model net e ≡ used = ap (λ t. length (written model net e t)) all ∙ sym noted.count in
         let list : route_list model net e ≡ Done k = sym (taken_lists_the_routes model net e law wf asked.source_there asked.apart asked.few_hops) ∙ ap (filter (is_complete net e)) all in (
           record {
-            lines = rl ∙ sym count;
-            routes = rr ∙ done.count ∙ sym (ap length list);
+            lines = sym count;
+            routes = done.count ∙ sym (ap length list);
+            inside = λ j h. omega (arith, (done.each j h).0, noted.count);
             each = λ j h.
-                let place = done.each j (omega arith) in
+                let place = done.each j h in
                 let one = noted.each (get_or finished j 0) (omega (arith, place.0, noted.count)) in
-                let at : get_or result.finished j 0 ≡ get_or finished j 0 = ap (λ l. get_or l j 0) rf in (
-                  one.line,
-                  ap (slice_get notebook) at ∙ one.there,
-                  one.is ∙ ap (line_of model net e one.line.taken) (place.1 ∙ ap (λ l. get_or l j []) (sym list)),
-                );
+                (one.line, one.there, one.is ∙ ap (line_of model net e one.line.taken) (place.1 ∙ ap (λ l. get_or l j []) (sym list)));
           },
-          omega arith,
+          omega (arith, noted.room),
         )
 
-    module _ (lines k used found : ℕ) (notebook : List (Line L)) (finished : List ℕ) (work : Working lines k used found notebook finished) (at : ℕ) (f : FirstLine (model e.kind) notebook used at) (line : Line L)
+    module _ (lines k used : ℕ) (notebook : List (Line L)) (finished : List ℕ) (work : Working lines k used notebook finished) (at : ℕ) (f : FirstLine (model e.kind) notebook used at) (line : Line L)
         (there : slice_get notebook at ≡ Some line) where
       step : (k < length PR) × (get_or (W k) at [] ≡ get_or PR k [])
       step = next_is model net e law wf asked k notebook used work.noted at f
@@ -215,8 +203,8 @@ module _ {K L : Type 0} (model : K → Model L) (net : Net) (e : Enquiry K) wher
       admitted : Admitted model net e (get_or PR k [])
       admitted = at_place model net e law wf asked.source_there asked.few_hops k step_more
 
-      route_is : line_route line ≡ get_or PR k []
-      route_is = ap line_route line_is ∙ route_on model net e line.taken (get_or PR k [])
+      route_is : line.arcs ≡ get_or PR k []
+      route_is = ap (λ (l : Line L). l.arcs) line_is
 
       pub step_on : OnLine model net e line
       step_on =
@@ -246,25 +234,25 @@ module _ {K L : Type 0} (model : K → Model L) (net : Net) (e : Enquiry K) wher
       inside_written : at < length (W k)
       inside_written = omega (arith, f.inside, work.noted.count)
 
-      pub found_few : found < 32
+      pub found_few : length finished < 32
       found_few = omega (arith, work.wanting, asked.few_wanted)
 
       -- it has arrived
-      done_now : is_complete net e (get_or PR k []) ≡ true → Completed model net e (W (k + 1)) (Done (k + 1)) (set finished found at) (found + 1)
+      done_now : is_complete net e (get_or PR k []) ≡ true → Completed model net e (W (k + 1)) (Done (k + 1)) (finished ++ at ∷ [])
       done_now full =
-          subst (λ r. Completed model net e r (Done (k + 1)) (set finished found at) (found + 1)) (sym (written_same k step_more full))
-          (subst (λ d. Completed model net e (W k) d (set finished found at) (found + 1)) (sym (done_one k step_more full))
-          (completed_push (W k) (Done k) (get_or PR k []) finished found at work.completed found_few inside_written step.1))
+          subst (λ r. Completed model net e r (Done (k + 1)) (finished ++ at ∷ [])) (sym (written_same k step_more full))
+          (subst (λ d. Completed model net e (W k) d (finished ++ at ∷ [])) (sym (done_one k step_more full))
+          (completed_push (W k) (Done k) (get_or PR k []) finished at work.completed inside_written step.1))
 
       noted_now : is_complete net e (get_or PR k []) ≡ true → Noted model net e (W (k + 1)) (take (k + 1) PR) (set notebook at (marked line)) used
       noted_now full = subst (λ r. Noted model net e r (take (k + 1) PR) (set notebook at (marked line)) used) (sym (written_same k step_more full)) step_noted
 
-      pub goes_on : is_complete net e (get_or (partial_routes model net e) k []) ≡ true → (found + 1 ≡ e.wanted → ⊥) → Working lines (k + 1) used (found + 1) (set notebook at (marked line)) (set finished found at)
+      pub goes_on : is_complete net e (get_or (partial_routes model net e) k []) ≡ true → (length finished + 1 ≡ e.wanted → ⊥) → Working lines (k + 1) used (set notebook at (marked line)) (finished ++ at ∷ [])
       goes_on full not_all =
-          record { some = omega (arith, step_more); noted = noted_now full; few = work.few; wanting = omega (arith, work.wanting); completed = done_now full }
+          record { some = omega (arith, step_more); noted = noted_now full; long = length-set notebook at (marked line) ∙ work.long; wanting = omega (arith, work.wanting, length_push finished at); completed = done_now full }
 
       -- it has not arrived, and is made longer
-      pub widens : is_complete net e (get_or (partial_routes model net e) k []) ≡ false → Widening lines k 0 used found (set notebook at (marked line)) finished line
+      pub widens : is_complete net e (get_or (partial_routes model net e) k []) ≡ false → Widening lines k 0 used (set notebook at (marked line)) finished line
       widens away =
           record {
             more = step_more;
@@ -272,29 +260,29 @@ module _ {K L : Type 0} (model : K → Model L) (net : Net) (e : Enquiry K) wher
             on = step_on;
             route = route_is;
             noted = subst (λ r. Noted model net e r (take (k + 1) PR) (set notebook at (marked line)) used) (sym (append-nil (W k))) step_noted;
-            few = work.few;
+            long = length-set notebook at (marked line) ∙ work.long;
             wanting = work.wanting;
             completed = work.completed;
           }
 
       -- it has arrived, and is the last that is wanted
-      pub all_wanted : is_complete net e (get_or (partial_routes model net e) k []) ≡ true → found + 1 ≡ e.wanted → (result : Work) → result.finished ≡ set finished found at → result.routes ≡ found + 1
-          → result.lines ≡ used → WorkDone model net e (Some result) (set notebook at (marked line)) lines
-      all_wanted full last result rf rr rl =
+      pub all_wanted : is_complete net e (get_or (partial_routes model net e) k []) ≡ true → length finished + 1 ≡ e.wanted
+          → Ended model net e (finished ++ at ∷ []) (set notebook at (marked line)) used × (line_count model net e ≤ lines)
+      all_wanted full last =
           let now = done_now full in
           let before : complete_of model net e (take k PR) < e.wanted = subst (λ n. n < e.wanted) work.completed.count work.wanting in
-          let stop : taken model net e ≡ take (k + 1) PR = taken_stop model net e k step_more before (omega (arith, now.count)) in
-          finish lines (k + 1) used (found + 1) (set notebook at (marked line)) (set finished found at) (noted_now full) now work.few stop result rf rr rl
+          let stop : taken model net e ≡ take (k + 1) PR = taken_stop model net e k step_more before (omega (arith, now.count, length_push finished at)) in
+          finish lines (k + 1) used (set notebook at (marked line)) (finished ++ at ∷ []) (noted_now full) now (length-set notebook at (marked line) ∙ work.long) stop
 
     -- no line is left
-    pub none_left_over : (lines k used found : ℕ) (notebook : List (Line L)) (finished : List ℕ) → Working lines k used found notebook finished → AllTaken (model e.kind) notebook used
-        → (result : Work) → result.finished ≡ finished → result.routes ≡ found → result.lines ≡ used → WorkDone model net e (Some result) notebook lines
-    none_left_over lines k used found notebook finished work every result rf rr rl =
+    pub none_left_over : (lines k used : ℕ) (notebook : List (Line L)) (finished : List ℕ) → Working lines k used notebook finished → AllTaken (model e.kind) notebook used
+        → Ended model net e finished notebook used × (line_count model net e ≤ lines)
+    none_left_over lines k used notebook finished work every =
         let last = none_more model net e law wf asked k notebook used work.noted work.some every in
         let before : complete_of model net e (take k PR) < e.wanted = subst (λ n. n < e.wanted) work.completed.count work.wanting in
-        finish lines k used found notebook finished work.noted work.completed work.few (taken_end model net e k (omega arith) before) result rf rr rl
+        finish lines k used notebook finished work.noted work.completed work.long (taken_end model net e k (omega arith) before)
 
-    module _ (lines k i used found : ℕ) (notebook : List (Line L)) (finished : List ℕ) (line : Line L) (wide : Widening lines k i used found notebook finished line) where
+    module _ (lines k i used : ℕ) (notebook : List (Line L)) (finished : List ℕ) (line : Line L) (wide : Widening lines k i used notebook finished line) where
       p : List ℕ
       p = get_or PR k []
 
@@ -320,58 +308,50 @@ module _ {K L : Type 0} (model : K → Model L) (net : Net) (e : Enquiry K) wher
         Note : List (List ℕ) → List (Line L) → ℕ → Type 0
         Note routes after used' = Noted model net e (W k ++ routes) (take (k + 1) PR) after used'
 
-        module _ (room : lines ≤ length notebook) (after : List (Line L)) (used' : ℕ) where
+        module _ (after : List (Line L)) (used' : ℕ) where
           written_one : (c : Bool) → eqb used lines ≡ c → is_writable model net e (get_or PR k [] ++ i ∷ []) ≡ true → Some used' ≡ cond c None (Some (used + 1))
-              → after ≡ cond c notebook (set notebook used (line_of model net e false (get_or PR k [] ++ i ∷ []))) → Note (longer i ++ (get_or PR k [] ++ i ∷ []) ∷ []) after used' × (used' ≤ lines)
+              → after ≡ cond c notebook (set notebook used (line_of model net e false (get_or PR k [] ++ i ∷ []))) → Note (longer i ++ (get_or PR k [] ++ i ∷ []) ∷ []) after used'
           unfolding Note longer
           written_one true q t u a = absurd (none_some (sym u))
           written_one false q t u a =
               let ne = eqb-false used lines q in
-              let is = some_same u in
-              let few = wide.few in
-              let step = noted_write model net e (W k ++ longer i) (take (k + 1) PR) notebook used wide.noted (get_or PR k [] ++ i ∷ []) (fresh t) (omega arith) in (
-                subst (λ n. Noted model net e (W k ++ (longer i ++ (get_or PR k [] ++ i ∷ []) ∷ [])) (take (k + 1) PR) after n) (sym is)
-                    (subst (λ b. Noted model net e (W k ++ (longer i ++ (get_or PR k [] ++ i ∷ []) ∷ [])) (take (k + 1) PR) b (used + 1)) (sym a)
-                    (subst (λ r. Noted model net e r (take (k + 1) PR) (set notebook used (line_of model net e false (get_or PR k [] ++ i ∷ []))) (used + 1)) (append_assoc (W k) (longer i) ((get_or PR k [] ++ i ∷ []) ∷ [])) step)),
-                omega arith,
-              )
+              let step = noted_write model net e (W k ++ longer i) (take (k + 1) PR) notebook used wide.noted (get_or PR k [] ++ i ∷ []) (fresh t) (omega (arith, wide.long, wide.noted.room)) in
+              subst (λ n. Noted model net e (W k ++ (longer i ++ (get_or PR k [] ++ i ∷ []) ∷ [])) (take (k + 1) PR) after n) (sym (some_same u))
+              (subst (λ b. Noted model net e (W k ++ (longer i ++ (get_or PR k [] ++ i ∷ []) ∷ [])) (take (k + 1) PR) b (used + 1)) (sym a)
+              (subst (λ r. Noted model net e r (take (k + 1) PR) (set notebook used (line_of model net e false (get_or PR k [] ++ i ∷ []))) (used + 1)) (append_assoc (W k) (longer i) ((get_or PR k [] ++ i ∷ []) ∷ [])) step))
 
           by_test : (b : Bool) → is_writable model net e (get_or PR k [] ++ i ∷ []) ≡ b → Some used' ≡ used_after (cond b (Some (line_of model net e false (get_or PR k [] ++ i ∷ []))) None) used lines
               → after ≡ notebook_after (cond b (Some (line_of model net e false (get_or PR k [] ++ i ∷ []))) None) used lines notebook
-              → Note (longer i ++ cond b ((get_or PR k [] ++ i ∷ []) ∷ []) []) after used' × (used' ≤ lines)
+              → Note (longer i ++ cond b ((get_or PR k [] ++ i ∷ []) ∷ []) []) after used'
           unfolding Note longer
           by_test true q u a = written_one (eqb used lines) refl q u a
           by_test false q u a =
-              let is = some_same u in
-              let few = wide.few in (
-                subst (λ r. Noted model net e (W k ++ r) (take (k + 1) PR) after used') (sym (append-nil (longer i)))
-                    (subst (λ n. Noted model net e (W k ++ longer i) (take (k + 1) PR) after n) (sym is) (subst (λ b. Noted model net e (W k ++ longer i) (take (k + 1) PR) b used) (sym a) wide.noted)),
-                omega arith,
-              )
+              subst (λ r. Noted model net e (W k ++ r) (take (k + 1) PR) after used') (sym (append-nil (longer i)))
+              (subst (λ n. Noted model net e (W k ++ longer i) (take (k + 1) PR) after n) (sym (some_same u)) (subst (λ b. Noted model net e (W k ++ longer i) (take (k + 1) PR) b used) (sym a) wide.noted))
 
           -- one arc more was tried
-          pub wider : Some used' ≡ used_after (next_line model net e (line_route line) i) used lines → after ≡ notebook_after (next_line model net e (line_route line) i) used lines notebook
-              → Widening lines k (i + 1) used' found after finished line
+          pub wider : Some used' ≡ used_after (next_line model net e line.arcs i) used lines → after ≡ notebook_after (next_line model net e line.arcs i) used lines notebook
+              → Widening lines k (i + 1) used' after finished line
           unfolding Note longer
           wider u a =
-              let at : next_line model net e (line_route line) i ≡ next_line model net e (get_or PR k []) i = ap (λ r. next_line model net e r i) wide.route in
-              let both = by_test (is_writable model net e (get_or PR k [] ++ i ∷ [])) refl (u ∙ ap (λ o. used_after o used lines) at) (a ∙ ap (λ o. notebook_after o used lines notebook) at) in
+              let at : next_line model net e line.arcs i ≡ next_line model net e (get_or PR k []) i = ap (λ r. next_line model net e r i) wide.route in
               record {
                 more = wide.more;
                 away = wide.away;
                 on = wide.on;
                 route = wide.route;
-                noted = subst (λ r. Noted model net e (W k ++ r) (take (k + 1) PR) after used') (sym longer_more) both.0;
-                few = both.1;
+                noted = subst (λ r. Noted model net e (W k ++ r) (take (k + 1) PR) after used') (sym longer_more)
+                    (by_test (is_writable model net e (get_or PR k [] ++ i ∷ [])) refl (u ∙ ap (λ o. used_after o used lines) at) (a ∙ ap (λ o. notebook_after o used lines notebook) at));
+                long = ap length a ∙ after_long (next_line model net e line.arcs i) used lines notebook ∙ wide.long;
                 wanting = wide.wanting;
                 completed = wide.completed;
               }
 
         -- a line is wanted and there is none
-        pub too_few : None ≡ used_after (next_line model net e (line_route line) i) used lines → lines < line_count model net e
+        pub too_few : None ≡ used_after (next_line model net e line.arcs i) used lines → lines < line_count model net e
         unfolding longer
         too_few u =
-            let at : next_line model net e (line_route line) i ≡ next_line model net e (get_or PR k []) i = ap (λ r. next_line model net e r i) wide.route in
+            let at : next_line model net e line.arcs i ≡ next_line model net e (get_or PR k []) i = ap (λ r. next_line model net e r i) wide.route in
             by_room (is_writable model net e (get_or PR k [] ++ i ∷ [])) refl (u ∙ ap (λ o. used_after o used lines) at)
           where
             grows : length (longer (i + 1)) ≤ length (admissible_of model net e (extended net (get_or PR k [])))
@@ -406,7 +386,7 @@ module _ {K L : Type 0} (model : K → Model L) (net : Net) (e : Enquiry K) wher
             by_room false q u = absurd (none_some u)
 
       -- every arc was tried
-      pub widened : i ≡ arc_count net → Working lines (k + 1) used found notebook finished
+      pub widened : i ≡ arc_count net → Working lines (k + 1) used notebook finished
       widened last =
           let whole : W k ++ admissible_of model net e (map (λ n. get_or PR k [] ++ n ∷ []) (range_with_len 0 i)) ≡ W (k + 1) =
           ap (λ n. W k ++ admissible_of model net e (map (λ j. get_or PR k [] ++ j ∷ []) (range_with_len 0 n))) last ∙ sym (written_wide k wide.more wide.away) in
@@ -414,10 +394,10 @@ module _ {K L : Type 0} (model : K → Model L) (net : Net) (e : Enquiry K) wher
           record {
             some = omega arith;
             noted = subst (λ r. Noted model net e r (take (k + 1) PR) notebook used) whole wide.noted;
-            few = wide.few;
+            long = wide.long;
             wanting = wide.wanting;
             completed =
-                subst (λ d. Completed model net e (W (k + 1)) d finished found) (sym (done_same k wide.more wide.away))
-                (subst (λ r. Completed model net e r (Done k) finished found) (sym (written_wide k wide.more wide.away))
-                (completed_more (W k) (admissible_of model net e (extended net (get_or PR k []))) (Done k) finished found wide.completed));
+                subst (λ d. Completed model net e (W (k + 1)) d finished) (sym (done_same k wide.more wide.away))
+                (subst (λ r. Completed model net e r (Done k) finished) (sym (written_wide k wide.more wide.away))
+                (completed_more (W k) (admissible_of model net e (extended net (get_or PR k []))) (Done k) finished wide.completed));
           }

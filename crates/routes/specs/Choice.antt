@@ -1,22 +1,19 @@
 -- Which line of a notebook is taken next: of those not taken yet, the first in the order of projected length and arc numbers.
-use Rattle.std.specs.Prelude.{◌≡◌, ℕ, ◌<◌, ◌≤◌, Bool, true, false, not, ◌&&◌, ◌||◌, T, List, length, Some, None, Option}
+use Rattle.std.specs.Prelude.{◌≡◌, ℕ, ◌<◌, Bool, true, false, not, ◌&&◌, ◌||◌, T, List, Some, None, Option}
 use Rattle.std.specs.List.{slice_get}
 use Rattle.network.specs.Lists.{place_by_place}
 use Rattle.length.specs.Model.{Model}
 use Rattle.routes.specs.declared.line.Line.{Line}
-use Rattle.routes.specs.Lines.{line_route}
 
 module _ {L : Type 0} (m : Model L) where
   -- a line may stand before another: its projected length is shorter, or as long and its arc numbers come first
   abbrev pub line_before : Line L → Line L → Bool
   line_before a b =
       m.no_longer a.projected b.projected
-      && (not (m.no_longer b.projected a.projected) || place_by_place (line_route a) (line_route b))
+      && (not (m.no_longer b.projected a.projected) || place_by_place a.arcs b.arcs)
 
-  -- a line has room for its arcs, and its projected length is a length
+  -- the projected length of a line is a length
   pub record Sound (line : Line L) : Type 0 where
-    pub long : length line.arcs ≡ 15
-    pub few : line.count ≤ 15
     pub valid : T (m.valid line.projected)
 
   module _ (notebook : List (Line L)) (used : ℕ) where
@@ -40,8 +37,3 @@ module _ {L : Type 0} (m : Model L) where
     abbrev pub Chosen : Option ℕ → Type 0
     Chosen None = AllTaken
     Chosen (Some at) = FirstLine at
-
--- the best so far once a place is looked at
-abbrev pub better : Bool → ℕ → Option ℕ → Option ℕ
-better true place best = Some place
-better false place best = best

@@ -1,12 +1,13 @@
 -- What a notebook holds while lines are taken, and what the work comes to.
 use Rattle.std.specs.Prelude.{◌≡◌, ℕ, ◌+◌, ◌<◌, ◌≤◌, true, false, cond, List, [], length, Some, None, Option, ◌==◌, slice_index, slice_index_or, slice_set}
 use Rattle.std.specs.List.{slice_get}
+use Rattle.arrayvec.specs.ArrayVec.{ArrayVec}
 use Rattle.network.specs.Lists.{In}
 use Rattle.network.specs.Net.{Net}
 use Rattle.length.specs.Model.{Model}
 use Rattle.routes.specs.declared.enquiry.Enquiry.{Enquiry}
 use Rattle.routes.specs.declared.line.Line.{Line}
-use Rattle.routes.specs.declared.taking.Work.{Work}
+use Rattle.routes.specs.declared.line.Notebook.{Notebook}
 use Rattle.routes.specs.Routes.{route_list}
 use Rattle.routes.specs.Partial.{line_count}
 use Rattle.routes.specs.Lines.{line_of}
@@ -17,11 +18,8 @@ marked line =
     record {
       length = line.length;
       projected = line.projected;
-      delay = line.delay;
-      jitter = line.jitter;
-      charge = line.charge;
+      totals = line.totals;
       arcs = line.arcs;
-      count = line.count;
       end = line.end;
       taken = true;
     }
@@ -53,19 +51,19 @@ notebook_after (Some line) used lines notebook = cond (used == lines) notebook (
 
 module _ {K L : Type 0} (model : K → Model L) (net : Net) (e : Enquiry K) where
   -- the places of the lines that completed routes
-  pub record Completed (routes complete : List (List ℕ)) (finished : List ℕ) (found : ℕ) : Type 0 where
-    pub count : found ≡ length complete
-    pub places : length finished ≡ 32
-    pub each : (j : ℕ) → j < found → (slice_index finished j < length routes) × (slice_index_or routes (slice_index finished j) [] ≡ slice_index_or complete j [])
+  pub record Completed (routes complete : List (List ℕ)) (finished : List ℕ) : Type 0 where
+    pub count : length finished ≡ length complete
+    pub each : (j : ℕ) → j < length finished → (slice_index finished j < length routes) × (slice_index_or routes (slice_index finished j) [] ≡ slice_index_or complete j [])
 
-  -- the lines of the routes that the enquiry asks for
-  pub record Ended (work : Work) (notebook : List (Line L)) : Type 0 where
-    pub lines : work.lines ≡ line_count model net e
-    pub routes : work.routes ≡ length (route_list model net e)
-    pub each : (j : ℕ) → j < work.routes
-        → (line : Line L) × (slice_get notebook (slice_index work.finished j) ≡ Some line) × (line ≡ line_of model net e line.taken (slice_index_or (route_list model net e) j []))
+  -- the lines of the routes that the enquiry asks for are finished, and as many lines are used as the work takes
+  pub record Ended (finished : List ℕ) (notebook : List (Line L)) (used : ℕ) : Type 0 where
+    pub lines : used ≡ line_count model net e
+    pub routes : length finished ≡ length (route_list model net e)
+    pub inside : (j : ℕ) → j < length finished → slice_index finished j < used
+    pub each : (j : ℕ) → j < length finished
+        → (line : Line L) × (slice_get notebook (slice_index finished j) ≡ Some line) × (line ≡ line_of model net e line.taken (slice_index_or (route_list model net e) j []))
 
   -- what the work comes to with so many lines: the routes, or too few lines
-  abbrev pub WorkDone : Option Work → List (Line L) → ℕ → Type 0
+  abbrev pub WorkDone : Option (ArrayVec ℕ) → Notebook L → ℕ → Type 0
   WorkDone None notebook lines = lines < line_count model net e
-  WorkDone (Some work) notebook lines = Ended work notebook × (line_count model net e ≤ lines)
+  WorkDone (Some finished) notebook lines = Ended finished.items notebook.lines.now notebook.used × (line_count model net e ≤ lines)

@@ -1,7 +1,6 @@
 // The checks of an enquiry before the work begins.
 ghost use Rattle.std.specs.Prelude.{◌≡◌};
-ghost use Rattle.std.specs.Option.{option_map};
-ghost use Rattle.network.specs.Checks.{first_failed};
+ghost use Rattle.network.specs.Checks.{answered, first_failed, outcome};
 ghost use Rattle.routes.specs.Enquire.{enquiry_told};
 ghost use Rattle.routes.specs.Sizes.{size_checks};
 
@@ -16,30 +15,30 @@ pub(super) struct Sizes {
     pub(super) tables: usize,
 }
 
-// The first check that fails, before the work begins.
-pub(super) fn early_refusal<K>(enquiry: &Enquiry<K>, sizes: Sizes) -> Option<EnquiryRefusal>
-    ensures { option_map enquiry_told result ≡ first_failed (size_checks enquiry.now sizes) }
+// The checks before the work begins, refused with the first that fails.
+pub(super) fn early_checks<K>(enquiry: &Enquiry<K>, sizes: Sizes) -> Result<(), EnquiryRefusal>
+    ensures { outcome (λ x. x) enquiry_told result ≡ answered (first_failed (size_checks enquiry.now sizes)) tt }
 {
     if enquiry.source as usize >= sizes.sites || enquiry.destination as usize >= sizes.sites {
-        return Some(EnquiryRefusal::NoSuchSite);
+        return Err(EnquiryRefusal::NoSuchSite);
     }
     if enquiry.source == enquiry.destination {
-        return Some(EnquiryRefusal::SameSite);
+        return Err(EnquiryRefusal::SameSite);
     }
     if enquiry.width == 0 {
-        return Some(EnquiryRefusal::WidthZero);
+        return Err(EnquiryRefusal::WidthZero);
     }
     if enquiry.limits.hops < 1 || enquiry.limits.hops > 15 {
-        return Some(EnquiryRefusal::HopsOutside);
+        return Err(EnquiryRefusal::HopsOutside);
     }
     if enquiry.wanted < 1 || enquiry.wanted > 32 {
-        return Some(EnquiryRefusal::WantedOutside);
+        return Err(EnquiryRefusal::WantedOutside);
     }
     if sizes.list < enquiry.wanted as usize {
-        return Some(EnquiryRefusal::ListTooShort);
+        return Err(EnquiryRefusal::ListTooShort);
     }
     if sizes.tables < sizes.sites {
-        return Some(EnquiryRefusal::TableTooShort);
+        return Err(EnquiryRefusal::TableTooShort);
     }
-    None
+    Ok(())
 }

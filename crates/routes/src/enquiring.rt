@@ -4,12 +4,12 @@ ghost use Rattle.network.specs.Checks.{first_failed, outcome};
 ghost use Rattle.network.specs.Copies.{copy_meaning};
 ghost use Rattle.routes.specs.Enquire.{early_checks, enquiry_answer, enquiry_told};
 ghost use Rattle.routes.specs.Lent.{brought, held_in, routes_answer, routes_list};
-ghost use Rattle.routes.specs.Lines.{Asked, RestsHold};
 
-use super::checking::{Sizes, early_refusal};
+use super::checking::{Sizes, early_checks};
 use super::enquiry::{Enquiry, Found, RouteRow};
+use super::extending::Search;
 use super::filling::{LentTables, fill_tables};
-use super::line::Line;
+use super::line::{Line, Notebook};
 use super::listing::list_rows;
 use super::refusals::EnquiryRefusal;
 use super::taking::take_lines;
@@ -27,26 +27,21 @@ fn shortest<L>(tables: &LentTables<'_, L>) -> usize
 
 // Takes lines and lists the routes, once the tables are filled.
 fn find_routes<K: Kind>(
-    network: &NetworkCopy,
-    enquiry: &Enquiry<K>,
-    tables: &LentTables<'_, K::Length>,
+    search: &Search<'_, '_, K>,
     notebook: &mut [Line<K::Length>],
     list: &mut [RouteRow],
 ) -> Result<Found, EnquiryRefusal>
-    requires asked { Asked (copy_meaning network.now) enquiry.now }
-    requires tables { RestsHold K.Kind.model (copy_meaning network.now) enquiry.now tables.now }
-    requires list { enquiry.now.wanted ≤ length list.old }
-    ensures answer { outcome (λ x. x) enquiry_told result ≡ routes_answer K.Kind.model (copy_meaning network.now) enquiry.now (length notebook.old) }
-    ensures list { list.new ≡ routes_list K.Kind.model (copy_meaning network.now) enquiry.now (length notebook.old) list.old }
+    requires { search.now.enquiry.now.wanted ≤ length list.old }
+    ensures answer { outcome (λ x. x) enquiry_told result ≡ routes_answer K.Kind.model (copy_meaning search.now.network.now) search.now.enquiry.now (length notebook.old) }
+    ensures list { list.new ≡ routes_list K.Kind.model (copy_meaning search.now.network.now) search.now.enquiry.now (length notebook.old) list.old }
 {
-    let lines = notebook.len().min(4096);
-    let Some(work) = take_lines(network, enquiry, tables, notebook, lines) else {
-        return Err(EnquiryRefusal::TooFewLines);
-    };
-    list_rows(&*notebook, &work, list);
+    let count = notebook.len().min(4096);
+    let mut lines = Notebook::of(&mut notebook[..count]);
+    let finished = take_lines(search, &mut lines).ok_or(EnquiryRefusal::TooFewLines)?;
+    list_rows(lines.lines_used(), finished.as_slice(), list);
     Ok(Found {
-        routes: work.routes as u32,
-        lines: work.lines as u32,
+        routes: finished.len() as u32,
+        lines: lines.used as u32,
     })
 }
 
@@ -75,9 +70,12 @@ pub fn enquire<N: Network, K: Kind>(
         list: list.len(),
         tables: shortest(tables),
     };
-    if let Some(refusal) = early_refusal(enquiry, sizes) {
-        return Err(refusal);
-    }
+    early_checks(enquiry, sizes)?;
     fill_tables(&copy, enquiry, tables);
-    find_routes(&copy, enquiry, &*tables, notebook, list)
+    let search = Search {
+        network: &copy,
+        enquiry,
+        rests: &*tables,
+    };
+    find_routes(&search, notebook, list)
 }

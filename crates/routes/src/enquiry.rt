@@ -22,7 +22,7 @@ pub struct Enquiry<K> {
 }
 
 // One row of a caller's list: a route. `arcs` has the arc numbers in its first `count` places, and 0 in the others.
-#[derive(Clone, Copy, PartialEq, Eq, Debug)]
+#[derive(Clone, Copy, Default, PartialEq, Eq, Debug)]
 pub struct RouteRow {
     pub count: u32,
     pub arcs: [u32; 15],

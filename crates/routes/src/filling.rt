@@ -18,7 +18,9 @@ fn fill_one<K: Kind>(
     width: u32,
     table: &mut [Option<K::Length>],
 )
-    requires { (destination < (copy_meaning network.now).sites) × ((0 < width) × ((copy_meaning network.now).sites ≤ length table.old)) }
+    requires destination { destination < (copy_meaning network.now).sites }
+    requires width { 0 < width }
+    requires table { (copy_meaning network.now).sites ≤ length table.old }
     ensures { table.new ≡ table_after (K.Kind.model kind.now) (copy_meaning network.now) width destination table.old }
 {
     let _ = least_totals(network, kind, destination, width, table);

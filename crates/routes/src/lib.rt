@@ -12,6 +12,7 @@ mod listing;
 mod noting;
 pub mod refusals;
 mod taking;
+mod totals;
 
 pub use enquiring::enquire;
 pub use enquiry::{Enquiry, Found, Limits, RouteRow};

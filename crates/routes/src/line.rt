@@ -1,18 +1,18 @@
-// Lines of a notebook.
-ghost use Rattle.std.specs.Prelude.{◌≡◌};
+// Lines of a notebook, and a notebook as the work writes it.
+ghost use Rattle.std.specs.Prelude.{◌≡◌, ◌≤◌, length};
 ghost use Rattle.routes.specs.Lines.{blank_line};
 
-// One line of a notebook: a partial route. `arcs` has the arc numbers in its first `count` places, and 0 in the others.
+use super::totals::Totals;
+use network::ArcNumbers;
+
+// One line of a notebook: a partial route.
 #[derive(Clone, Copy)]
 pub struct Line<L> {
     // the length of the arcs, and that joined with the least length from their end
     pub(super) length: L,
     pub(super) projected: L,
-    pub(super) delay: u32,
-    pub(super) jitter: u32,
-    pub(super) charge: u32,
-    pub(super) arcs: [u8; 15],
-    pub(super) count: u8,
+    pub(super) totals: Totals,
+    pub(super) arcs: ArcNumbers,
     // the site where the arcs end
     pub(super) end: u8,
     pub(super) taken: bool,
@@ -26,13 +26,18 @@ impl<L: Copy> Line<L> {
         Line {
             length,
             projected: length,
-            delay: 0,
-            jitter: 0,
-            charge: 0,
-            arcs: [0; 15],
-            count: 0,
+            totals: Totals::default(),
+            arcs: ArcNumbers::new(),
             end: 0,
             taken: false,
         }
     }
+}
+
+// A notebook, of which the first lines are used.
+#[derive(Drop)]
+pub(super) struct Notebook<'a, L> {
+    pub(super) lines: &'a mut [Line<L>],
+    pub(super) used: usize,
+    ghost room: { used ≤ length lines.now },
 }

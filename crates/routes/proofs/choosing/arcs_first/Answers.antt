@@ -1,28 +1,18 @@
 -- The first place that differs decides, and else the number of arcs.
-use Rattle.std.proofs.Common.{sym, ◌∙◌, arith}
-use Rattle.routes.proofs.Firsts.{less_at, more_at, same_at, shared_end}
+use Rattle.std.proofs.Common.{◌≡◌, Bool, true, false, cond, ◌&&◌, ◌||◌, eqb, ltb, Ordering, Less, Equal, Greater, sym, refl, subst}
+use Rattle.std.proofs.lemmas.Cmp.{same_from_slice_cmp_tested}
+use Rattle.std.specs.Ordering.{MatchOrdering, nat_cmp, is_le}
+use Rattle.network.specs.Lists.{place_by_place}
 use Rattle.routes.proofs.choosing.arcs_first.Goals as goal
 
-pub returns-then-a-place : goal.returns-then-a-place
-returns-then-a-place g c =
-    let a = c.args.a.now in
-    let b = c.args.b.now in
-    sym (less_at a.arcs b.arcs a.count b.count (omega arith) (omega arith) c.loop-place.place (omega arith) (omega arith) c.if-a-place.true) ∙ c.loop-place.invariant
-
-pub returns-then-a-place-2 : goal.returns-then-a-place-2
-returns-then-a-place-2 g c =
-    let a = c.args.a.now in
-    let b = c.args.b.now in
-    sym (more_at a.arcs b.arcs a.count b.count (omega arith) (omega arith) c.loop-place.place (omega arith) (omega arith) c.if-a-place-2.true) ∙ c.loop-place.invariant
-
-pub loop-place-preserved : goal.loop-place-preserved
-loop-place-preserved g c =
-    let a = c.args.a.now in
-    let b = c.args.b.now in
-    same_at a.arcs b.arcs a.count b.count (omega arith) (omega arith) c.loop-place.place (omega arith) (omega arith) (omega arith) ∙ c.loop-place.invariant
+-- what the first places decide, by whether the first is less or the same, and what the others decide
+at_first : (less same rest : Bool) (o : Ordering) → o ≡ cond less Less (cond same Equal Greater)
+    → MatchOrdering o ((less || (same && rest)) ≡ true) ((less || (same && rest)) ≡ rest) ((less || (same && rest)) ≡ false)
+at_first true same rest o e = subst (λ o. MatchOrdering o (true ≡ true) (true ≡ rest) (true ≡ false)) (sym e) refl
+at_first false true rest o e = subst (λ o. MatchOrdering o (rest ≡ true) (rest ≡ rest) (rest ≡ false)) (sym e) refl
+at_first false false rest o e = subst (λ o. MatchOrdering o (false ≡ true) (false ≡ rest) (false ≡ false)) (sym e) refl
 
 pub returns : goal.returns
-returns g c =
-    let a = c.args.a.now in
-    let b = c.args.b.now in
-    sym (shared_end a.arcs b.arcs a.count b.count (omega arith) (omega arith) c.loop-place.place (omega arith)) ∙ c.loop-place.invariant
+returns c =
+    same_from_slice_cmp_tested nat_cmp is_le place_by_place refl (λ y ys. refl) (λ x xs. refl) (λ x y xs ys. at_first (ltb x y) (eqb x y) (place_by_place xs ys))
+    c.args.a.now c.args.b.now c.le.result c.le.ensures

@@ -1,6 +1,7 @@
 -- A check before the work fails, or the work on the filled tables gives the answer.
 use Rattle.std.proofs.Common.{◌≡◌, length, is_some, None, sym, refl, ap, ◌∙◌, subst}
 use borrow.Author.Tests.{clash}
+use Rattle.std.proofs.lemmas.Result.{err_from_is_err_and}
 use Rattle.network.specs.Checks.{first_failed}
 use Rattle.network.specs.Copies.{copy_meaning}
 use Rattle.network.specs.Net.{Net}
@@ -9,19 +10,23 @@ use Rattle.length.specs.Standard.{standard}
 use Rattle.routes.specs.declared.checking.Sizes.{Sizes}
 use Rattle.routes.specs.Enquire.{early_checks, enquiry_answer, enquiry_told}
 use Rattle.routes.specs.Lent.{brought}
-use Rattle.routes.proofs.Enquiries.{answered_work, early_passed, filled_holds, refused_early, same_checks}
+use Rattle.routes.specs.Sizes.{size_checks}
+use Rattle.routes.proofs.Enquiries.{answered_work, checks_failed, checks_passed, early_passed, filled_holds, refused_early, same_checks}
 use Rattle.routes.proofs.enquiring.enquire.Goals as goal
 
-pub returns-in-Some : goal.returns-in-Some
-returns-in-Some g c =
+pub returns-in_err-early_checks : goal.returns-in_err-early_checks
+returns-in_err-early_checks g c =
     let model = g.K.Kind.model in
     let net = g.N.Network.meaning c.args.network.now in
     let b = brought c.args.enquiry.now c.args.tables.now c.args.list.now (length c.args.notebook.now) in
     let sizes : Sizes = record { sites = c.from.result; list = length c.args.list.now; tables = c.shortest.result } in
     let sites = c.from.ensures ∙ c.sites.ensures ∙ ap (λ (n : Net). n.sites) c.of-copy.ensures in
-    let failed = sym (c.in-Some.ensures ∙ same_checks model net b sizes sites refl c.shortest.ensures) in
-    let is = refused_early model net b (enquiry_told c.in-Some.refusal) failed in
-    record {
+    let told = enquiry_told c.in_err-early_checks.field-0.0 in
+    let failed = sym (same_checks model net b sizes sites refl c.shortest.ensures) ∙ checks_failed (first_failed (size_checks b.enquiry sizes)) told c.in_err-early_checks.ensures in
+    let is = refused_early model net b told failed in
+    let p = err_from_is_err_and c.from_residual.result c.from_residual.ensures.1 in
+    rw (p.1, p.2)
+    (record {
       answer = sym (ap (λ a. a.result) is);
       tables = sym (ap (λ a. a.tables) is);
       list = sym (ap (λ a. a.list) is);
@@ -31,7 +36,7 @@ returns-in-Some g c =
       same_jitter = refl;
       same_charge = refl;
       same_hops = refl;
-    }
+    })
 
 pub fill_tables-requires : goal.fill_tables-requires
 fill_tables-requires g c =
@@ -39,7 +44,7 @@ fill_tables-requires g c =
     let net = copy_meaning c.of-copy.result in
     let b = brought c.args.enquiry.now c.args.tables.now c.args.list.now (length c.args.notebook.now) in
     let sizes : Sizes = record { sites = c.from.result; list = length c.args.list.now; tables = c.shortest.result } in
-    let none = sym (c.in_default.ensures ∙ same_checks model net b sizes (c.from.ensures ∙ c.sites.ensures) refl c.shortest.ensures) in
+    let none = sym (same_checks model net b sizes (c.from.ensures ∙ c.sites.ensures) refl c.shortest.ensures) ∙ checks_passed (first_failed (size_checks b.enquiry sizes)) c.in_ok-early_checks.ensures in
     let passed = early_passed model net b none in
     record {
       asked = passed.asked;
@@ -51,27 +56,35 @@ fill_tables-requires g c =
       hops = passed.by_hops;
     }
 
-pub find_routes-requires : goal.find_routes-requires
-find_routes-requires g c =
+pub invariant_of-search : goal.invariant_of-search
+invariant_of-search g c =
     let model = g.K.Kind.model in
     let net = copy_meaning c.of-copy.result in
     let e = c.args.enquiry.now in
     let b = brought e c.args.tables.now c.args.list.now (length c.args.notebook.now) in
     let sizes : Sizes = record { sites = c.from.result; list = length c.args.list.now; tables = c.shortest.result } in
-    let none = sym (c.in_default.ensures ∙ same_checks model net b sizes (c.from.ensures ∙ c.sites.ensures) refl c.shortest.ensures) in
+    let none = sym (same_checks model net b sizes (c.from.ensures ∙ c.sites.ensures) refl c.shortest.ensures) ∙ checks_passed (first_failed (size_checks b.enquiry sizes)) c.in_ok-early_checks.ensures in
     let passed = early_passed model net b none in
     let filled = c.fill_tables.ensures in
     record {
       asked = passed.asked;
-      tables = record {
+      rests_hold = record {
         by_kind = filled_holds (model e.kind) net e.width e.destination b.tables.by_kind _ filled.length;
         by_delay = filled_holds (standard Delay) net e.width e.destination b.tables.by_delay _ filled.delay;
         by_jitter = filled_holds (standard Jitter) net e.width e.destination b.tables.by_jitter _ filled.jitter;
         by_charge = filled_holds (standard Charge) net e.width e.destination b.tables.by_charge _ filled.charge;
         by_hops = filled_holds (standard Hops) net e.width e.destination b.tables.by_hops _ filled.hops;
       };
-      list = passed.list;
     }
+
+pub find_routes-requires : goal.find_routes-requires
+find_routes-requires g c =
+    let model = g.K.Kind.model in
+    let net = copy_meaning c.of-copy.result in
+    let b = brought c.args.enquiry.now c.args.tables.now c.args.list.now (length c.args.notebook.now) in
+    let sizes : Sizes = record { sites = c.from.result; list = length c.args.list.now; tables = c.shortest.result } in
+    let none = sym (same_checks model net b sizes (c.from.ensures ∙ c.sites.ensures) refl c.shortest.ensures) ∙ checks_passed (first_failed (size_checks b.enquiry sizes)) c.in_ok-early_checks.ensures in
+    (early_passed model net b none).list
 
 pub returns : goal.returns
 returns g c =
@@ -80,7 +93,7 @@ returns g c =
     let same = c.of-copy.ensures in
     let b = brought c.args.enquiry.now c.args.tables.now c.args.list.now (length c.args.notebook.now) in
     let sizes : Sizes = record { sites = c.from.result; list = length c.args.list.now; tables = c.shortest.result } in
-    let none = sym (c.in_default.ensures ∙ same_checks model copied b sizes (c.from.ensures ∙ c.sites.ensures) refl c.shortest.ensures) in
+    let none = sym (same_checks model copied b sizes (c.from.ensures ∙ c.sites.ensures) refl c.shortest.ensures) ∙ checks_passed (first_failed (size_checks b.enquiry sizes)) c.in_ok-early_checks.ensures in
     let is = answered_work model copied b none in
     let filled = c.fill_tables.ensures in
     record {

@@ -3,5 +3,5 @@ use Rattle.std.proofs.Common.{◌≡◌, ◌++◌, take, drop}
 use Rattle.routes.specs.Rows.{rows_at}
 use Rattle.routes.proofs.listing.list_rows.Given as goal
 
-abbrev pub invariant-loop-place : goal.invariant-loop-place
-invariant-loop-place g l = l.list ≡ take l.place (rows_at l.notebook l.work.finished l.work.routes) ++ drop l.place l.initial.list
+abbrev pub invariant-loop-row : goal.invariant-loop-row
+invariant-loop-row g l = l.list ≡ take l.row (rows_at l.notebook l.places) ++ drop l.row l.initial.list

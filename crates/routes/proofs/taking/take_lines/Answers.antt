@@ -1,163 +1,184 @@
 -- Each step of the code is a step of the work.
-use Rattle.std.proofs.Common.{◌≡◌, ◌≤◌, length, Option, sym, refl, ap, ◌∙◌, subst, arith}
+use Rattle.std.proofs.Common.{◌≡◌, ℕ, length, Some, None, Option, sym, refl, ◌∙◌, subst, arith}
 use Rattle.std.proofs.lemmas.Bool.{eq-eqb, ne_eqb}
+use Rattle.arrayvec.specs.ArrayVec.{ArrayVec}
 use Rattle.network.specs.Copies.{copy_meaning}
 use Rattle.network.specs.Net.{arc_count}
 use Rattle.network.specs.Fits.{fits_formed}
-use Rattle.routes.specs.declared.taking.Work.{Work}
 use Rattle.routes.specs.Work.{WorkDone, notebook_after, used_after}
+use Rattle.routes.proofs.Chosen.{chosen_used, sound_used}
 use Rattle.routes.proofs.Progress.{all_sound}
-use Rattle.routes.proofs.Starts.{start_is}
 use Rattle.routes.proofs.Works.{all_wanted, goes_on, no_start, none_left_over, step_arrived, step_more, step_room, too_few, widened, widens, wider, work_starts}
 use Rattle.routes.proofs.taking.take_lines.Goals as goal
+use Rattle.routes.proofs.taking.take_lines.Goals.{in-Some+then-from-enquiry+then-len-enquiry, in_default}
 
-pub returns-in_err-used : goal.returns-in_err-used
-returns-in_err-used g c =
-    let network = c.args.network.now in
-    let net = copy_meaning network in
-    let e = c.args.enquiry.now in
+pub returns-in_err-note : goal.returns-in_err-note
+returns-in_err-note g c =
+    let search = c.args.search.now in
+    let net = copy_meaning search.network.now in
+    let e = search.enquiry.now in
     let model = g.K.Kind.model in
     let law = g.met.K.Kind.lawful e.kind in
-    let wf = fits_formed net network.limits in
-    let begun = c.start.ensures ∙ sym (start_is model net e c.requires.asked c.args.rests.now c.requires.rests) in
-    subst (λ (o : Option Work). WorkDone model net e o c.note.new.notebook c.args.lines) (sym c.from_residual.ensures)
-    (no_start model net e law wf c.requires.asked c.args.lines (c.in_err-used.ensures.used ∙ ap (λ o. used_after o 0 c.args.lines) begun))
+    let wf = fits_formed net search.network.now.limits in
+    let lines = length c.args.notebook.now.lines.now in
+    subst (λ (o : Option (ArrayVec ℕ)). WorkDone model net e o c.note.new.self lines) (sym c.from_residual.ensures)
+    (no_start model net e law wf search.asked lines (c.in_err-note.ensures.used ∙ (λ k. used_after (c.start.ensures k) (c.requires k) lines)))
 
 pub taking-init : goal.taking-init
 taking-init g c =
-    let network = c.args.network.now in
-    let net = copy_meaning network in
-    let e = c.args.enquiry.now in
+    let search = c.args.search.now in
+    let net = copy_meaning search.network.now in
+    let e = search.enquiry.now in
     let model = g.K.Kind.model in
     let law = g.met.K.Kind.lawful e.kind in
-    let wf = fits_formed net network.limits in
-    let lines = c.args.lines in
-    let begun = c.start.ensures ∙ sym (start_is model net e c.requires.asked c.args.rests.now c.requires.rests) in
-    work_starts model net e law wf c.requires.asked lines c.args.notebook.now c.note.new.notebook c.in_ok-used.used c.requires.lines
-    (c.in_ok-used.ensures.used ∙ ap (λ o. used_after o 0 lines) begun) (c.note.ensures.notebook ∙ ap (λ o. notebook_after o 0 lines c.args.notebook.now) begun) _ refl
+    let wf = fits_formed net search.network.now.limits in
+    let lines = length c.args.notebook.now.lines.now in
+    let book = c.args.notebook.now in
+    rw c.new-finished.ensures
+    (work_starts model net e law wf search.asked lines book.lines.now c.note.new.self.lines.now c.note.new.self.used refl
+    (c.in_ok-note.ensures.used ∙ (λ k. used_after (c.start.ensures k) (c.requires k) lines))
+    (c.note.ensures.lines ∙ (λ k. notebook_after (c.start.ensures k) (c.requires k) lines book.lines.now)))
 
 pub next_line-requires : goal.next_line-requires
 next_line-requires g c =
-    let network = c.args.network.now in
-    let net = copy_meaning network in
-    let e = c.args.enquiry.now in
-    let work = c.taking.invariant in
-    (all_sound g.K.Kind.model net e (g.met.K.Kind.lawful e.kind) (fits_formed net network.limits) c.requires.asked c.taking.done c.taking.notebook c.taking.used work.noted, work.noted.room)
+    let search = c.args.search.now in
+    let net = copy_meaning search.network.now in
+    let e = search.enquiry.now in
+    let model = g.K.Kind.model in
+    let law = g.met.K.Kind.lawful e.kind in
+    let wf = fits_formed net search.network.now.limits in
+    let book = c.taking.notebook in
+    sound_used (model e.kind) book.lines.now book.used c.lines_used.result.now c.lines_used.ensures
+    (all_sound model net e law wf search.asked c.taking.done book.lines.now book.used c.taking.invariant.noted)
 
 pub overflow_add-done : goal.overflow_add-done
 overflow_add-done g c =
-    let network = c.args.network.now in
-    let net = copy_meaning network in
-    let e = c.args.enquiry.now in
-    let work = c.taking.invariant in
-    let room = step_room g.K.Kind.model net e (g.met.K.Kind.lawful e.kind) (fits_formed net network.limits) c.requires.asked c.args.lines c.taking.done c.taking.used c.taking.routes
-    c.taking.notebook c.taking.finished work c.in-Some.at c.in-Some.ensures c.mark_taken-line.result c.mark_taken-line.ensures.line in
-    record { fits = omega (arith, room, work.few, c.ranges.lines.fits) }
+    let search = c.args.search.now in
+    let net = copy_meaning search.network.now in
+    let e = search.enquiry.now in
+    let model = g.K.Kind.model in
+    let law = g.met.K.Kind.lawful e.kind in
+    let wf = fits_formed net search.network.now.limits in
+    let lines = length c.args.notebook.now.lines.now in
+    let book = c.taking.notebook in
+    let first = chosen_used (model e.kind) book.lines.now book.used c.lines_used.result.now c.lines_used.ensures (Some c.in-Some.at) book.room c.in-Some.ensures in
+    let line = c.mark_taken-line.result in
+    let room = step_room model net e law wf search.asked lines c.taking.done book.used book.lines.now c.taking.finished.items c.taking.invariant c.in-Some.at first line c.mark_taken-line.ensures.line in
+    record { fits = omega (arith, room, book.room) }
 
 pub taking-smaller-then-from-enquiry : goal.taking-smaller-then-from-enquiry
 taking-smaller-then-from-enquiry g c =
-    let network = c.args.network.now in
-    let net = copy_meaning network in
-    let e = c.args.enquiry.now in
-    let more = step_more g.K.Kind.model net e (g.met.K.Kind.lawful e.kind) (fits_formed net network.limits) c.requires.asked c.args.lines c.taking.done c.taking.used c.taking.routes
-    c.taking.notebook c.taking.finished c.taking.invariant c.in-Some.at c.in-Some.ensures c.mark_taken-line.result c.mark_taken-line.ensures.line in
+    let search = c.args.search.now in
+    let net = copy_meaning search.network.now in
+    let e = search.enquiry.now in
+    let model = g.K.Kind.model in
+    let law = g.met.K.Kind.lawful e.kind in
+    let wf = fits_formed net search.network.now.limits in
+    let lines = length c.args.notebook.now.lines.now in
+    let book = c.taking.notebook in
+    let first = chosen_used (model e.kind) book.lines.now book.used c.lines_used.result.now c.lines_used.ensures (Some c.in-Some.at) book.room c.in-Some.ensures in
+    let line = c.mark_taken-line.result in
+    let more = step_more model net e law wf search.asked lines c.taking.done book.used book.lines.now c.taking.finished.items c.taking.invariant c.in-Some.at first line c.mark_taken-line.ensures.line in
     omega (arith, more)
 
 pub taking-preserved-then-from-enquiry : goal.taking-preserved-then-from-enquiry
 taking-preserved-then-from-enquiry g c =
-    let network = c.args.network.now in
-    let net = copy_meaning network in
-    let e = c.args.enquiry.now in
+    let search = c.args.search.now in
+    let net = copy_meaning search.network.now in
+    let e = search.enquiry.now in
     let model = g.K.Kind.model in
     let law = g.met.K.Kind.lawful e.kind in
-    let wf = fits_formed net network.limits in
-    let asked = c.requires.asked in
-    let lines = c.args.lines in
-    let full = step_arrived model net e law wf asked lines c.taking.done c.taking.used c.taking.routes c.taking.notebook c.taking.finished c.taking.invariant c.in-Some.at c.in-Some.ensures c.mark_taken-line.result c.mark_taken-line.ensures.line ∙ eq-eqb c.mark_taken-line.result.end e.destination (sym c.from.ensures ∙ c.if-from-enquiry.true) in
-    rw c.mark_taken-line.ensures.notebook (goes_on model net e law wf asked lines c.taking.done c.taking.used c.taking.routes c.taking.notebook c.taking.finished c.taking.invariant c.in-Some.at c.in-Some.ensures c.mark_taken-line.result c.mark_taken-line.ensures.line full c.if-routes-enquiry.false)
+    let wf = fits_formed net search.network.now.limits in
+    let lines = length c.args.notebook.now.lines.now in
+    let book = c.taking.notebook in
+    let first = chosen_used (model e.kind) book.lines.now book.used c.lines_used.result.now c.lines_used.ensures (Some c.in-Some.at) book.room c.in-Some.ensures in
+    let line = c.mark_taken-line.result in
+    let full = step_arrived model net e law wf search.asked lines c.taking.done book.used book.lines.now c.taking.finished.items c.taking.invariant c.in-Some.at first line c.mark_taken-line.ensures.line ∙ eq-eqb line.end e.destination (sym c.from.ensures ∙ c.if-from-enquiry.true) in
+    rw (c.mark_taken-line.ensures.used, c.mark_taken-line.ensures.lines, c.push.ensures.items)
+    (goes_on model net e law wf search.asked lines c.taking.done book.used book.lines.now c.taking.finished.items c.taking.invariant c.in-Some.at first line c.mark_taken-line.ensures.line full (λ q. c.if-len-enquiry.false (c.len.ensures.value ∙ c.push.ensures.len ∙ q)))
 
 pub loop-number-init : goal.loop-number-init
 loop-number-init g c =
-    let network = c.args.network.now in
-    let net = copy_meaning network in
-    let e = c.args.enquiry.now in
+    let search = c.args.search.now in
+    let net = copy_meaning search.network.now in
+    let e = search.enquiry.now in
     let model = g.K.Kind.model in
     let law = g.met.K.Kind.lawful e.kind in
-    let wf = fits_formed net network.limits in
-    let asked = c.requires.asked in
-    let lines = c.args.lines in
-    let away = step_arrived model net e law wf asked lines c.taking.done c.taking.used c.taking.routes c.taking.notebook c.taking.finished c.taking.invariant c.in-Some.at c.in-Some.ensures c.mark_taken-line.result c.mark_taken-line.ensures.line ∙ ne_eqb c.mark_taken-line.result.end e.destination (λ q. c.if-from-enquiry.false (c.from.ensures ∙ q)) in
-    (c.taking.done, refl, rw c.mark_taken-line.ensures.notebook (widens model net e law wf asked lines c.taking.done c.taking.used c.taking.routes c.taking.notebook c.taking.finished c.taking.invariant c.in-Some.at c.in-Some.ensures c.mark_taken-line.result c.mark_taken-line.ensures.line away))
+    let wf = fits_formed net search.network.now.limits in
+    let lines = length c.args.notebook.now.lines.now in
+    let book = c.taking.notebook in
+    let first = chosen_used (model e.kind) book.lines.now book.used c.lines_used.result.now c.lines_used.ensures (Some c.in-Some.at) book.room c.in-Some.ensures in
+    let line = c.mark_taken-line.result in
+    let away = step_arrived model net e law wf search.asked lines c.taking.done book.used book.lines.now c.taking.finished.items c.taking.invariant c.in-Some.at first line c.mark_taken-line.ensures.line ∙ ne_eqb line.end e.destination (λ q. c.if-from-enquiry.false (c.from.ensures ∙ q)) in
+    (c.taking.done, refl, rw (c.mark_taken-line.ensures.used, c.mark_taken-line.ensures.lines) (widens model net e law wf search.asked lines c.taking.done book.used book.lines.now c.taking.finished.items c.taking.invariant c.in-Some.at first line c.mark_taken-line.ensures.line away))
 
 pub taking-preserved : goal.taking-preserved
 taking-preserved g c =
-    let network = c.args.network.now in
-    let net = copy_meaning network in
-    let e = c.args.enquiry.now in
+    let search = c.args.search.now in
+    let net = copy_meaning search.network.now in
+    let e = search.enquiry.now in
     let model = g.K.Kind.model in
     let law = g.met.K.Kind.lawful e.kind in
-    let wf = fits_formed net network.limits in
-    let asked = c.requires.asked in
-    let lines = c.args.lines in
+    let wf = fits_formed net search.network.now.limits in
+    let lines = length c.args.notebook.now.lines.now in
     let inv = c.loop-number.invariant in
     let last : c.loop-number.number ≡ arc_count net = omega (arith, c.arcs-number-end.ensures) in
-    rw inv.1 (widened model net e law wf asked lines inv.0 c.loop-number.number c.loop-number.used c.taking.routes c.loop-number.notebook c.taking.finished c.mark_taken-line.result inv.2 last)
+    rw inv.1 (widened model net e law wf search.asked lines inv.0 c.loop-number.number c.loop-number.notebook.used c.loop-number.notebook.lines.now c.taking.finished.items c.mark_taken-line.result inv.2 last)
 
-pub returns-in_err-used-2 : goal.returns-in_err-used-2
-returns-in_err-used-2 g c =
-    let network = c.args.network.now in
-    let net = copy_meaning network in
-    let e = c.args.enquiry.now in
+pub returns-in_err-note-2 : goal.returns-in_err-note-2
+returns-in_err-note-2 g c =
+    let search = c.args.search.now in
+    let net = copy_meaning search.network.now in
+    let e = search.enquiry.now in
     let model = g.K.Kind.model in
     let law = g.met.K.Kind.lawful e.kind in
-    let wf = fits_formed net network.limits in
-    let asked = c.requires.asked in
-    let lines = c.args.lines in
+    let wf = fits_formed net search.network.now.limits in
+    let lines = length c.args.notebook.now.lines.now in
     let inv = c.loop-number.invariant in
-    subst (λ (o : Option Work). WorkDone model net e o c.note-in-loop-number.new.notebook lines) (sym c.from_residual-in_err-used-2.ensures)
-    (too_few model net e law wf asked lines inv.0 c.loop-number.number c.loop-number.used c.taking.routes c.loop-number.notebook c.taking.finished c.mark_taken-line.result inv.2 (omega (arith, c.arcs-number-end.ensures))
-    (c.in_err-used-2.ensures.used ∙ ap (λ o. used_after o c.loop-number.used lines) c.extended.ensures))
+    let book = c.loop-number.notebook in
+    subst (λ (o : Option (ArrayVec ℕ)). WorkDone model net e o c.note-in-loop-number.new.self lines) (sym c.from_residual-in_err-note-2.ensures)
+    (too_few model net e law wf search.asked lines inv.0 c.loop-number.number book.used book.lines.now c.taking.finished.items c.mark_taken-line.result inv.2 (omega (arith, c.arcs-number-end.ensures))
+    (c.in_err-note-2.ensures.used ∙ (λ k. used_after (c.extended.ensures k) book.used (inv.2.long k))))
 
 pub loop-number-preserved : goal.loop-number-preserved
 loop-number-preserved g c =
-    let network = c.args.network.now in
-    let net = copy_meaning network in
-    let e = c.args.enquiry.now in
+    let search = c.args.search.now in
+    let net = copy_meaning search.network.now in
+    let e = search.enquiry.now in
     let model = g.K.Kind.model in
     let law = g.met.K.Kind.lawful e.kind in
-    let wf = fits_formed net network.limits in
-    let asked = c.requires.asked in
-    let lines = c.args.lines in
+    let wf = fits_formed net search.network.now.limits in
+    let lines = length c.args.notebook.now.lines.now in
     let inv = c.loop-number.invariant in
-    let room : lines ≤ length c.loop-number.notebook = omega (arith, c.requires.lines, c.note.auto.notebook, c.taking.auto.notebook, c.mark_taken-line.auto.notebook, c.loop-number.auto.notebook) in (
+    let book = c.loop-number.notebook in (
       inv.0,
       inv.1,
-      wider model net e law wf asked lines inv.0 c.loop-number.number c.loop-number.used c.taking.routes c.loop-number.notebook c.taking.finished c.mark_taken-line.result inv.2 (omega (arith, c.arcs-number-end.ensures)) room c.note-in-loop-number.new.notebook c.in_ok-used-2.used
-          (c.in_ok-used-2.ensures.used ∙ ap (λ o. used_after o c.loop-number.used lines) c.extended.ensures)
-          (c.note-in-loop-number.ensures.notebook ∙ ap (λ o. notebook_after o c.loop-number.used lines c.loop-number.notebook) c.extended.ensures),
+      wider model net e law wf search.asked lines inv.0 c.loop-number.number book.used book.lines.now c.taking.finished.items c.mark_taken-line.result inv.2 (omega (arith, c.arcs-number-end.ensures))
+          c.note-in-loop-number.new.self.lines.now c.note-in-loop-number.new.self.used
+          (c.in_ok-note-2.ensures.used ∙ (λ k. used_after (c.extended.ensures k) book.used (inv.2.long k)))
+          (c.note-in-loop-number.ensures.lines ∙ (λ k. notebook_after (c.extended.ensures k) book.used (inv.2.long k) book.lines.now)),
     )
 
-pub returns-then-routes-enquiry : goal.returns-then-routes-enquiry
-returns-then-routes-enquiry g c =
-    let network = c.args.network.now in
-    let net = copy_meaning network in
-    let e = c.args.enquiry.now in
+pub returns : goal.returns
+returns g c =
+    let search = c.args.search.now in
+    let net = copy_meaning search.network.now in
+    let e = search.enquiry.now in
     let model = g.K.Kind.model in
     let law = g.met.K.Kind.lawful e.kind in
-    let wf = fits_formed net network.limits in
-    let asked = c.requires.asked in
-    let lines = c.args.lines in
-    let full = step_arrived model net e law wf asked lines c.taking.done c.taking.used c.taking.routes c.taking.notebook c.taking.finished c.taking.invariant c.in-Some.at c.in-Some.ensures c.mark_taken-line.result c.mark_taken-line.ensures.line ∙ eq-eqb c.mark_taken-line.result.end e.destination (sym c.from.ensures ∙ c.if-from-enquiry.true) in
-    rw c.mark_taken-line.ensures.notebook (all_wanted model net e law wf asked lines c.taking.done c.taking.used c.taking.routes c.taking.notebook c.taking.finished c.taking.invariant c.in-Some.at c.in-Some.ensures c.mark_taken-line.result c.mark_taken-line.ensures.line full c.if-routes-enquiry.true _ refl refl refl)
-
-pub returns-in_default : goal.returns-in_default
-returns-in_default g c =
-    let network = c.args.network.now in
-    let net = copy_meaning network in
-    let e = c.args.enquiry.now in
-    let model = g.K.Kind.model in
-    let law = g.met.K.Kind.lawful e.kind in
-    let wf = fits_formed net network.limits in
-    let asked = c.requires.asked in
-    let lines = c.args.lines in
-    none_left_over model net e law wf asked lines c.taking.done c.taking.used c.taking.routes c.taking.notebook c.taking.finished c.taking.invariant c.in_default.ensures _ refl refl refl
+    let wf = fits_formed net search.network.now.limits in
+    let lines = length c.args.notebook.now.lines.now in
+    let book = c.taking.notebook in
+    let chosen = chosen_used (model e.kind) book.lines.now book.used c.lines_used.result.now c.lines_used.ensures in
+    elim c.match-next_line.branch [
+      | in-Some+then-from-enquiry+then-len-enquiry w ↦
+          let first = chosen (Some w.in-Some.at) book.room w.in-Some.ensures in
+          let line = w.mark_taken-line.result in
+          let there = w.mark_taken-line.ensures.line in
+          let full = step_arrived model net e law wf search.asked lines c.taking.done book.used book.lines.now c.taking.finished.items c.taking.invariant w.in-Some.at first line there ∙ eq-eqb line.end e.destination (sym w.from.ensures ∙ w.if-from-enquiry.true) in
+          rw (w.notebook-is, w.finished-is, w.mark_taken-line.ensures.used, w.mark_taken-line.ensures.lines, w.push.ensures.items)
+          (all_wanted model net e law wf search.asked lines c.taking.done book.used book.lines.now c.taking.finished.items c.taking.invariant w.in-Some.at first line there full (sym (w.len.ensures.value ∙ w.push.ensures.len) ∙ w.if-len-enquiry.true))
+      | in_default w ↦
+          rw (w.notebook-is, w.finished-is)
+          (none_left_over model net e law wf search.asked lines c.taking.done book.used book.lines.now c.taking.finished.items c.taking.invariant (chosen None book.room w.in_default.ensures))
+    ]

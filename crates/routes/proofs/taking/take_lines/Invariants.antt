@@ -6,12 +6,12 @@ use Rattle.routes.proofs.Works.{Widening, Working}
 use Rattle.routes.proofs.taking.take_lines.Given as goal
 
 abbrev pub invariant-taking : goal.invariant-taking
-invariant-taking g l = Working g.K.Kind.model (copy_meaning l.network) l.enquiry l.lines l.done l.used l.routes l.notebook l.finished
+invariant-taking g l = Working g.K.Kind.model (copy_meaning l.search.network.now) l.enquiry (length l.fn.notebook.lines.now) l.done l.notebook.used l.notebook.lines.now l.finished.items
 
 abbrev pub decreases-taking : goal.decreases-taking
-decreases-taking g l = length (partial_routes g.K.Kind.model (copy_meaning l.network) l.enquiry) - l.done
+decreases-taking g l = length (partial_routes g.K.Kind.model (copy_meaning l.search.network.now) l.enquiry) - l.done
 
 abbrev pub invariant-loop-number : goal.invariant-loop-number
 invariant-loop-number g l =
     (k : ℕ) × (l.done ≡ k + 1)
-    × Widening g.K.Kind.model (copy_meaning l.network) l.enquiry l.lines k l.number l.used l.routes l.notebook l.finished l.line
+    × Widening g.K.Kind.model (copy_meaning l.search.network.now) l.enquiry (length l.fn.notebook.lines.now) k l.number l.notebook.used l.notebook.lines.now l.finished.items l.line

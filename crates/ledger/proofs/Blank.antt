@@ -5,12 +5,7 @@ use Rattle.network.specs.Lists.{all_of, sort}
 use Rattle.ledger.specs.declared.row.Row.{Row}
 use Rattle.ledger.specs.Rows.{OneRowEach, SoldIs, blank_row, earlier, entries_of, fits, has_ticket, in_use, row_entry, width_on}
 use Rattle.ledger.specs.Tally.{Tally, opened}
-
--- the default of a list of one value is that value
-get_or_same : {A : Type 0} (n i : ℕ) (a : A) → get_or (replicate n a) i a ≡ a
-get_or_same zero i a = refl
-get_or_same (suc n) zero a = refl
-get_or_same (suc n) (suc i) a = get_or_same n i a
+use Rattle.ledger.proofs.Tests.{get_or_same}
 
 sum_blank : (value : Row → ℕ) → value blank_row ≡ 0 → (n : ℕ) → sum_by value (replicate n blank_row) ≡ 0
 sum_blank value e zero = refl

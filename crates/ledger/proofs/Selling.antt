@@ -2,17 +2,13 @@
 use Rattle.std.proofs.Common.{◌≡◌, ℕ, zero, suc, ◌+◌, ◌<◌, ◌≤◌, Bool, true, false, cond, not, ◌||◌, eqb, List, [], ◌∷◌, ◌++◌, length, get_or, take, set, sym, refl, ap, ◌∙◌, ⊎_elim, arith}
 use mathlib.Core.Bool.{or-false}
 use Rattle.std.proofs.lemmas.List.{get_or-set_same, get_or-set_other, get_or-take, length-take-le, take_more, take-take}
+use Rattle.std.proofs.lemmas.List.Folds.{list_any-append}
 use Rattle.std.proofs.lemmas.Bool.{and_parts, both_ways, cases_eq, eq-eqb, ne_eqb, not-true, or_from}
 use Rattle.network.specs.Lists.{among, any_of, distinct}
 use Rattle.ledger.proofs.Tests.{any_some}
 
 pub any_push : {A : Type 0} (test : A → Bool) (xs : List A) (y : A) → any_of test (xs ++ (y ∷ [])) ≡ (any_of test xs || test y)
-any_push test [] y = or-false (test y)
-any_push test (x ∷ xs) y = go (test x) (any_push test xs y)
-  where
-    go : (b : Bool) → any_of test (xs ++ (y ∷ [])) ≡ (any_of test xs || test y) → (b || any_of test (xs ++ (y ∷ []))) ≡ ((b || any_of test xs) || test y)
-    go true ih = refl
-    go false ih = ih
+any_push test xs y = list_any-append test xs (y ∷ []) ∙ ap (λ b. any_of test xs || b) (or-false (test y))
 
 -- a number of a list of which none stands twice is not among those before it
 apart : (xs : List ℕ) (k : ℕ) → k < length xs → distinct xs ≡ true → among (get_or xs k 0) (take k xs) ≡ false

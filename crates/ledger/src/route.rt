@@ -50,8 +50,10 @@ pub(super) fn sites_apart<N: Network>(network: &N, arcs: &[u32]) -> bool
 }
 
 // Whether each arc has capacity for a width.
-pub(super) fn have_room<N: Network>(network: &N, arcs: &[u32], width: u32) -> bool
+pub(super) fn have_room<N: Network>(network: &N, arcs: &[u32], width: u8) -> bool
     ensures { result ≡ not (any_of (λ i. nat_lt (arc_at (N.Network.meaning network.now) i).capacity width) arcs.now) }
 {
-    !arcs.iter().any(|number| u32::from(arc_at(network, *number).capacity) < width)
+    !arcs
+        .iter()
+        .any(|number| arc_at(network, *number).capacity < width)
 }

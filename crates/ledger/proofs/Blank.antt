@@ -1,39 +1,32 @@
 -- Lemmas on a ledger as it is opened: its rows stand for nothing, and no arc is marked.
-use Rattle.std.proofs.Common.{◌≡◌, ℕ, zero, suc, true, false, cond, [], map, get_or, replicate, sum_by, filter, sym, refl, ◌∙◌, arith}
+use Rattle.std.proofs.Common.{◌≡◌, ℕ, zero, suc, true, cond, [], replicate, sum_by, sym, refl, ap, ◌∙◌, arith}
+use Rattle.std.specs.List.{filter_map}
 use Rattle.std.proofs.lemmas.List.Sums.{sum_by-cons}
 use Rattle.network.specs.Lists.{all_of, sort}
 use Rattle.ledger.specs.declared.row.Row.{Row}
-use Rattle.ledger.specs.Rows.{OneRowEach, SoldIs, blank_row, earlier, entries_of, fits, has_ticket, in_use, row_entry, width_on}
+use Rattle.ledger.specs.declared.row.Row.TheVariants.{Empty}
+use Rattle.ledger.specs.Rows.{OneRowEach, SoldIs, earlier, entries_of, fits, has_ticket, no_use, row_entry, width_on}
 use Rattle.ledger.specs.Tally.{Tally, opened}
+use Rattle.ledger.proofs.Selling.{use_at}
+use Rattle.ledger.proofs.Tests.{get_or_same}
 
--- the default of a list of one value is that value
-get_or_same : {A : Type 0} (n i : ℕ) (a : A) → get_or (replicate n a) i a ≡ a
-get_or_same zero i a = refl
-get_or_same (suc n) zero a = refl
-get_or_same (suc n) (suc i) a = get_or_same n i a
-
-sum_blank : (value : Row → ℕ) → value blank_row ≡ 0 → (n : ℕ) → sum_by value (replicate n blank_row) ≡ 0
+sum_blank : (value : Row → ℕ) → value Empty ≡ 0 → (n : ℕ) → sum_by value (replicate n Empty) ≡ 0
 sum_blank value e zero = refl
-sum_blank value e (suc n) = let ih = sum_blank value e n in omega (arith, sum_by-cons value blank_row (replicate n blank_row))
+sum_blank value e (suc n) = let ih = sum_blank value e n in omega (arith, sum_by-cons value Empty (replicate n Empty))
 
-all_blank : (n : ℕ) → all_of (fits 0) (replicate n blank_row) ≡ true
-all_blank zero = refl
-all_blank (suc n) = all_blank n
-
-kept_blank : (n : ℕ) → filter in_use (replicate n blank_row) ≡ []
+kept_blank : (n : ℕ) → filter_map row_entry (replicate n Empty) ≡ []
 kept_blank zero = refl
 kept_blank (suc n) = kept_blank n
 
-module _ (n : ℕ) (r : Row) (blank : r ≡ blank_row) where
-  pub one_row_blank : OneRowEach (replicate n r)
-  one_row_blank = rw blank (λ ticket. omega (arith, sum_blank (λ r. cond (has_ticket ticket r) 1 0) refl n))
+pub one_row_blank : (n : ℕ) → OneRowEach (replicate n Empty)
+one_row_blank n ticket = omega (arith, sum_blank (λ r. cond (has_ticket ticket r) 1 0) refl n)
 
-  pub fits_blank : all_of (fits 0) (replicate n r) ≡ true
-  fits_blank = rw blank (all_blank n)
+pub fits_blank : (n : ℕ) → all_of (fits 0) (replicate n Empty) ≡ true
+fits_blank zero = refl
+fits_blank (suc n) = fits_blank n
 
-  pub sold_blank : (m : ℕ) → SoldIs (replicate m 0) (replicate n r)
-  sold_blank m = rw blank (λ arc l. get_or_same m arc 0 ∙ sym (sum_blank (width_on arc) refl n))
+pub sold_blank : (n m : ℕ) → SoldIs (replicate m no_use) (replicate n Empty)
+sold_blank n m arc l = ap (λ u. u.sold) (get_or_same m arc no_use) ∙ sym (sum_blank (width_on arc) refl n)
 
-  pub opened_blank : (m : ℕ) → ◌≡◌ {A = Tally} (record { marked = λ i. get_or (replicate m false) i false; given = 0; entries = entries_of (replicate n r) }) opened
-  opened_blank m =
-      rw blank (λ i. record { marked = λ j. get_or_same m j false i; given = 0; entries = sort earlier (map row_entry (kept_blank n i)) })
+pub opened_blank : (n m : ℕ) → ◌≡◌ {A = Tally} (record { marked = λ i. (use_at (replicate m no_use) i).closed; given = 0; entries = entries_of (replicate n Empty) }) opened
+opened_blank n m = λ i. record { marked = λ j. (get_or_same m j no_use i).closed; given = 0; entries = sort earlier (kept_blank n i) }

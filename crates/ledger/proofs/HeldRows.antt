@@ -1,13 +1,11 @@
 -- The held rows of a ledger have the tickets of the tally's held entries.
 use Rattle.std.proofs.Common.{◌≡◌, ℕ, Bool, true, false, cond, not, ◌&&◌, ◌||◌, eqb, ◌↔◌, List, [], ◌∷◌, map, filter, sym, refl, ap, ◌∙◌, subst, inl, inr}
+use Rattle.std.specs.List.{filter_map}
 use Rattle.std.proofs.lemmas.Bool.{both_ways, eq-eqb, eqb-true}
 use Rattle.network.specs.Lists.{In, among, distinct, insert, sort}
 use Rattle.ledger.specs.declared.ledger.Ledger.{Ledger}
-use Rattle.ledger.specs.declared.row.Row.{Row}
-use Rattle.ledger.specs.declared.row.RowState.{RowState}
-use Rattle.ledger.specs.declared.row.RowState.TheVariants.{Empty, Held, Booked}
 use Rattle.ledger.specs.Ledgers.{ledger_tally, tickets_held}
-use Rattle.ledger.specs.Rows.{earlier, in_state, in_use, row_entry, state_is}
+use Rattle.ledger.specs.Rows.{earlier, row_entry}
 use Rattle.ledger.specs.Tally.{Entry, held_tickets}
 use Rattle.ledger.proofs.Sorting.{kept_sort}
 use Rattle.ledger.proofs.Tests.{or_swap}
@@ -82,33 +80,14 @@ once_sort : (xs : List Entry) → distinct (tickets (sort earlier xs)) ≡ disti
 once_sort [] = refl
 once_sort (x ∷ xs) = once_insert x (sort earlier xs) ∙ (λ k. not (among_sort x.ticket xs k) && once_sort xs k)
 
--- of the rows in use those that are not booked are held
-abbrev held_rows : List Row → List Row
-held_rows rows = filter (λ row. state_is Held row.state) rows
-
-abbrev held_entries : List Row → List Entry
-held_entries rows = filter (λ x. not x.booked) (map row_entry (filter in_use rows))
-
-held_is : (rows : List Row) → tickets (held_entries rows) ≡ map (λ row. row.ticket) (held_rows rows)
-held_is [] = refl
-held_is (row ∷ rows) = go row.state (held_is rows)
-  where
-    go : (s : RowState) → tickets (held_entries rows) ≡ map (λ row. row.ticket) (held_rows rows)
-        → tickets (held_entries (in_state s row ∷ rows)) ≡ map (λ row. row.ticket) (held_rows (in_state s row ∷ rows))
-    go Empty ih = ih
-    go Held ih = ap (λ ts. row.ticket ∷ ts) ih
-    go Booked ih = ih
-
-tally_held : {N : Type 0} (l : Ledger N) → held_tickets (ledger_tally l) ≡ tickets (sort earlier (held_entries l.rows))
-tally_held l = ap tickets (kept_sort (λ x. not x.booked) (map row_entry (filter in_use l.rows)))
+tally_held : {N : Type 0} (l : Ledger N) → held_tickets (ledger_tally l) ≡ tickets (sort earlier (filter (λ x. not x.booked) (filter_map row_entry l.rows)))
+tally_held l = ap tickets (kept_sort (λ x. not x.booked) (filter_map row_entry l.rows))
 
 -- the tickets in the held rows are those of the held entries, in some order
 pub held_in_rows : {N : Type 0} (l : Ledger N) (t : ℕ) → In t (tickets_held l) ↔ In t (held_tickets (ledger_tally l))
 held_in_rows l t =
-    let sorted = in_sort t (held_entries l.rows) in (
-      λ h. subst (In t) (sym (tally_held l)) (sorted.1 (subst (In t) (sym (held_is l.rows)) h)),
-      λ h. subst (In t) (held_is l.rows) (sorted.0 (subst (In t) (tally_held l) h)),
-    )
+    let sorted = in_sort t (filter (λ x. not x.booked) (filter_map row_entry l.rows)) in
+    (λ h. subst (In t) (sym (tally_held l)) (sorted.1 h), λ h. sorted.0 (subst (In t) (tally_held l) h))
 
 pub held_rows_once : {N : Type 0} (l : Ledger N) → distinct (tickets_held l) ≡ distinct (held_tickets (ledger_tally l))
-held_rows_once l = ap distinct (sym (held_is l.rows)) ∙ (sym (once_sort (held_entries l.rows)) ∙ ap distinct (sym (tally_held l)))
+held_rows_once l = sym (once_sort (filter (λ x. not x.booked) (filter_map row_entry l.rows))) ∙ ap distinct (sym (tally_held l))

@@ -1,40 +1,48 @@
 -- Lemmas on a hold: what its checks tell, and what one row that turns held makes of the ledger.
-use Rattle.std.proofs.Common.{◌≡◌, ℕ, ◌+◌, ◌-◌, ◌<◌, ◌≤◌, Bool, true, false, cond, not, ◌&&◌, ◌||◌, eqb, ltb, leb, List, [], ◌∷◌, ◌++◌, map, length, get_or, set, Some, None, Ok, Err, count_by, Option, sym, refl, ap, ◌∙◌, ⊎_elim, arith}
+use Rattle.std.proofs.Common.{◌≡◌, ℕ, ◌+◌, ◌-◌, ◌<◌, ◌≤◌, Bool, true, false, cond, not, ◌&&◌, ◌||◌, eqb, ltb, leb, List, [], ◌∷◌, ◌++◌, map, length, get_or, set, Some, None, Ok, Err, count_by, Option, is_some, unwrap_or, add-zero, sym, refl, ap, ◌∙◌, subst, ⊎_elim, arith}
+use Rattle.std.specs.Option.{option_map_or}
 use Rattle.std.proofs.ByRecursion.{All-get_or}
 use Rattle.std.proofs.lemmas.List.{get_or_past}
 use Rattle.std.proofs.lemmas.List.Sums.{sum_by-cons, sum_by-set}
-use Rattle.std.proofs.lemmas.Bool.{and_parts, both_ways, cases_eq, cases_lt, eq-eqb, eqb-false, eqb-true, le-leb, lt-leb, ltb-false, ltb-true, ne_eqb, not-false, not-true, or_parts}
+use Rattle.std.proofs.lemmas.Bool.{and_from, and_parts, both_ways, cases_eq, cases_lt, eq-eqb, eqb-false, eqb-true, le-leb, lt-leb, lt-ltb, ltb-false, ltb-true, ne_eqb, not-false, not-true, or_parts}
 use Rattle.network.specs.Checks.{Check, Told, answered, first_failed, refusal}
 use Rattle.network.specs.Lists.{all_of, among, any_of, distinct}
 use Rattle.network.specs.Net.{Net, ArcFits, WellFormed, arc_at, arc_count, no_arc}
 use Rattle.length.specs.Walks.{arcs_outside, no_such_arc}
+use Rattle.ledger.specs.declared.arcs.ArcUse.{ArcUse}
 use Rattle.ledger.specs.declared.ledger.Ledger.{Ledger}
 use Rattle.ledger.specs.declared.row.Circuit.{Circuit}
 use Rattle.ledger.specs.declared.row.Row.{Row}
+use Rattle.ledger.specs.declared.row.Row.TheVariants.{Empty, Held, Booked}
 use Rattle.ledger.specs.declared.row.RowCall.TheVariants.{Hold}
-use Rattle.ledger.specs.declared.row.RowState.TheVariants.{Empty, Held}
 use Rattle.ledger.specs.Ledgers.{ledger_tally}
 use Rattle.ledger.specs.Routes.{route_refusal}
-use Rattle.ledger.specs.Rows.{OneRowEach, SoldIs, arcs_of, circuit_fits, entries_of, fits, has_ticket, in_use, no_row, row_after, share, state_is, width_on}
-use Rattle.ledger.specs.Tally.{Tally, free_net, free_on, hold_next, hold_refusal, is_joined, last_ticket, row_count, sites_met, taken_on}
+use Rattle.ledger.specs.Rows.{OneRowEach, entries_of, entry_fits, entry_of, fits, has_ticket, in_use, row_entry, row_next, share, width_on}
+use Rattle.ledger.specs.Tally.{Entry, Tally, free_net, free_on, hold_next, hold_refusal, is_joined, last_ticket, row_count, sites_met, taken_on}
 use Rattle.ledger.specs.Shown.{free_less, shown_at, shown_count}
-use Rattle.ledger.proofs.Standing.{fits_from, fits_says, hold_entries}
-use Rattle.ledger.proofs.Tests.{all_put, all_so, any_same, any_some}
-use Rattle.ledger.proofs.Marks.{tally_of}
-use Rattle.ledger.proofs.Turns.{after_allowed, tally_with}
+use Rattle.ledger.proofs.Selling.{use_at}
+use Rattle.ledger.proofs.Standing.{entry_from, entry_says, hold_entries}
+use Rattle.ledger.proofs.Tests.{all_at, all_put, all_so, any_same, any_some}
+use Rattle.ledger.proofs.Marks.{same_marks, tally_of}
+use Rattle.ledger.proofs.Turns.{Stand}
 
 -- what an answer says of the checks
 
 clash : {P : Type 0} → ◌≡◌ {A = ℕ} 0 1 → P
 clash e = absurd (omega arith)
 
-pub passed_none : (o : Option Told) → Ok tt ≡ answered {A = Unit {0}} o tt → o ≡ None
-passed_none None e = refl
-passed_none (Some x) e = clash (cc)
+module _ {A : Type 0} (x : A) where
+  pub passed_none : (o : Option Told) (y : A) → Ok y ≡ answered o x → o ≡ None
+  passed_none None y e = refl
+  passed_none (Some told) y e = cc
 
-pub failed_some : (o : Option Told) (x : Told) → Err x ≡ answered {A = Unit {0}} o tt → o ≡ Some x
-failed_some None x e = clash (cc)
-failed_some (Some y) x e = cc
+  pub passed_is : (o : Option Told) (y : A) → Ok y ≡ answered o x → y ≡ x
+  passed_is None y e = cc
+  passed_is (Some told) y e = cc
+
+  pub failed_some : (o : Option Told) (told : Told) → Err told ≡ answered o x → o ≡ Some told
+  failed_some None told e = cc
+  failed_some (Some other) told e = cc
 
 or_else : Option Told → Option Told → Option Told
 or_else None o = o
@@ -118,11 +126,34 @@ shown_capacity net t i =
 pub shown_room : (net : Net) (t : Tally) (width : ℕ) (arcs : List ℕ) → any_of (λ i. ltb (arc_at (free_net net t) i).capacity width) arcs ≡ any_of (λ i. ltb (free_on net t i) width) arcs
 shown_room net t width arcs = any_same _ _ (λ i. ap (λ n. ltb n width) (shown_capacity net t i)) arcs
 
+pub numbers_are : (arcs : List ℕ) (b : Bool) (numbers : List ℕ) → Some numbers ≡ cond b (Some arcs) None → numbers ≡ arcs
+numbers_are arcs true numbers e = cc
+numbers_are arcs false numbers e = cc
+
 module _ (net : Net) (t : Tally) (width : ℕ) (arcs : List ℕ) where
   -- where all checks of the route but the last pass
   pub route_last : (b : Bool) → eqb width 0 ≡ false → arcs_outside arcs ≡ false → all_of (λ i. ltb i (arc_count net)) arcs ≡ true → is_joined net arcs ≡ true → distinct (sites_met net arcs) ≡ true
       → any_of (λ i. ltb (free_on net t i) width) arcs ≡ b → route_refusal net t width arcs ≡ cond b (Some (refusal 35)) None
   route_last b some inside there joined apart room = rw (some, inside, there, joined, apart, room)
+
+  -- where there are numbers that a circuit does not hold, one is no arc's
+  pub route_no_arc : WellFormed net → eqb width 0 ≡ false → arcs_outside arcs ≡ false → length arcs ≤ 15 → None ≡ cond (leb (length arcs) 15 && all_of (λ i. ltb i 256) arcs) (Some arcs) None → route_refusal net t width arcs ≡ Some (refusal 32)
+  route_no_arc wf some inside few none = rw (some, inside, go (all_of (λ i. ltb i (arc_count net)) arcs) refl)
+    where
+      go : (b : Bool) → all_of (λ i. ltb i (arc_count net)) arcs ≡ b → b ≡ false
+      go true e =
+          let below = all_so (λ i. ltb i (arc_count net)) (λ i. ltb i 256) (λ i l. lt-ltb i 256 (omega (arith, ltb-true i (arc_count net) l, wf.few_arcs))) arcs e in
+          let there : None ≡ Some arcs = none ∙ ap (λ b. cond b (Some arcs) None) (and_from _ _ (le-leb (length arcs) 15 few) below) in
+          cc
+      go false e = refl
+
+  -- no arc has a capacity above 255
+  pub wide : WellFormed net → 0 < length arcs → all_of (λ i. ltb i (arc_count net)) arcs ≡ true → 256 ≤ width → any_of (λ i. ltb (free_on net t i) width) arcs ≡ true
+  wide wf some there big =
+      let i = get_or arcs 0 0 in
+      let l : get_or arcs 0 0 < arc_count net = ltb-true (get_or arcs 0 0) (arc_count net) (all_at (λ i. ltb i (arc_count net)) arcs 0 0 some there) in
+      any_some (λ i. ltb (free_on net t i) width) arcs 0 0 some
+      (lt-ltb (free_on net t (get_or arcs 0 0)) width (omega (arith, free_less (t.marked (get_or arcs 0 0)) (arc_at net (get_or arcs 0 0)).capacity (taken_on t (get_or arcs 0 0)), (All-get_or (ArcFits net.sites) net.arcs (get_or arcs 0 0) no_arc l wf.arcs_fit).capacity_fits)))
 
   abbrev last_checks : List Check
   last_checks = (leb row_count (length t.entries), refusal 36) ∷ (leb last_ticket t.given, refusal 37) ∷ []
@@ -164,9 +195,8 @@ pub record Passed (net : Net) (t : Tally) (width : ℕ) (arcs : List ℕ) : Type
   pub there : (i : ℕ) → among i arcs ≡ true → i < arc_count net
   pub room : (i : ℕ) → among i arcs ≡ true → width ≤ free_on net t i
 
-pub route_passed : (net : Net) (t : Tally) (width : ℕ) (arcs : List ℕ) → Ok tt ≡ answered {A = Unit {0}} (route_refusal net t width arcs) tt → Passed net t width arcs
-route_passed net t width arcs granted =
-    let e = passed_none (route_refusal net t width arcs) granted in
+pub route_passed : (net : Net) (t : Tally) (width : ℕ) (arcs : List ℕ) → route_refusal net t width arcs ≡ None → Passed net t width arcs
+route_passed net t width arcs e =
     let p0 = pass (eqb width 0) _ _ e in
     let p1 = pass (arcs_outside arcs) _ _ p0.1 in
     let p2 = pass (no_such_arc net arcs) _ _ p1.1 in
@@ -188,16 +218,6 @@ module _ (net : Net) (wf : WellFormed net) (t : Tally) (width : ℕ) (arcs : Lis
   capacity_at : (i : ℕ) → i < arc_count net → (arc_at net i).capacity ≤ 255
   capacity_at i l = (All-get_or (ArcFits net.sites) net.arcs i no_arc l wf.arcs_fit).capacity_fits
 
-  -- the width is at most the capacity of the first arc
-  pub width_fits : width < 256
-  width_fits =
-      let first = among_at arcs 0 p.some_arcs in
-      let i = get_or arcs 0 0 in
-      omega (arith, p.room (get_or arcs 0 0) first, free_less (t.marked (get_or arcs 0 0)) (arc_at net (get_or arcs 0 0)).capacity (taken_on t (get_or arcs 0 0)), capacity_at (get_or arcs 0 0) (p.there (get_or arcs 0 0) first))
-
-  pub arcs_below : (k : ℕ) → k < length arcs → get_or arcs k 0 < 256
-  arcs_below k l = omega (arith, p.there (get_or arcs k 0) (among_at arcs k l), wf.few_arcs)
-
   -- with the width, what is taken on an arc is at most its capacity
   pub room_for : (i : ℕ) → among i arcs ≡ true → taken_on t i + width ≤ 255
   room_for i m = go (t.marked i) (p.room i m) (capacity_at i (p.there i m))
@@ -208,63 +228,93 @@ module _ (net : Net) (wf : WellFormed net) (t : Tally) (width : ℕ) (arcs : Lis
 
 -- an empty row turns held
 
+fits_more : (given : ℕ) (r : Row) → fits given r ≡ true → fits (given + 1) r ≡ true
+fits_more given r h = go (row_entry r) h
+  where
+    go : (o : Option Entry) → option_map_or (entry_fits given) o true ≡ true → option_map_or (entry_fits (given + 1)) o true ≡ true
+    go None h = refl
+    go (Some x) h =
+        let was = entry_says given x h in
+        entry_from (given + 1) x (record {
+          some_ticket = was.some_ticket;
+          ticket_given = omega (arith, was.ticket_given);
+          some_width = was.some_width;
+          some_arcs = was.some_arcs;
+          few_arcs = was.few_arcs;
+          arcs_apart = was.arcs_apart;
+        })
+
 count_new : (given ticket : ℕ) → given < ticket → (rows : List Row) → all_of (fits given) rows ≡ true → count_by (has_ticket ticket) rows ≡ 0
 count_new given ticket new [] h = refl
-count_new given ticket new (r ∷ rs) h =
-    sum_by-cons (λ r. cond (has_ticket ticket r) 1 0) r rs ∙ (go (in_use r) refl (eqb r.ticket ticket) refl ∙ count_new given ticket new rs (and_parts (fits given r) (all_of (fits given) rs) h).1)
+count_new given ticket new (r ∷ rs) h = sum_by-cons (λ r. cond (has_ticket ticket r) 1 0) r rs ∙ (go (row_entry r) (and_parts _ _ h).0 ∙ count_new given ticket new rs (and_parts _ _ h).1)
   where
-    go : (u : Bool) → in_use r ≡ u → (b : Bool) → eqb r.ticket ticket ≡ b → cond (u && b) 1 0 + count_by (has_ticket ticket) rs ≡ count_by (has_ticket ticket) rs
-    go true e true f = absurd (omega (arith, eqb-true r.ticket ticket f, (fits_says given r (and_parts (fits given r) (all_of (fits given) rs) h).0 e).ticket_given))
-    go true e false f = omega arith
-    go false e b f = omega arith
+    go : (o : Option Entry) → option_map_or (entry_fits given) o true ≡ true → cond (option_map_or (λ x. eqb x.ticket ticket) o false) 1 0 + count_by (has_ticket ticket) rs ≡ count_by (has_ticket ticket) rs
+    go None fit = omega arith
+    go (Some x) fit =
+        let none : cond {A = ℕ} (eqb x.ticket ticket) 1 0 ≡ 0 = ap (λ b. cond b 1 0) (ne_eqb x.ticket ticket (λ e. absurd (omega (arith, (entry_says given x fit).ticket_given)))) in
+        omega arith
 
-fits_more : (given : ℕ) (r : Row) → fits given r ≡ true → fits (given + 1) r ≡ true
-fits_more given r h = go (in_use r) refl
-  where
-    go : (u : Bool) → in_use r ≡ u → fits (given + 1) r ≡ true
-    go true e =
-        let was = fits_says given r h e in
-        fits_from (given + 1) r (record { some_ticket = was.some_ticket; ticket_given = omega (arith, was.ticket_given); circuit_fit = was.circuit_fit })
-    go false e = ap (λ b. not b || (ltb 0 r.ticket && (leb r.ticket (given + 1) && circuit_fits r.circuit))) e
+-- a circuit of a route that passed its checks, under a new ticket
+pub held_fit : (net : Net) (t : Tally) (width : ℕ) (arcs : List ℕ) → Passed net t width arcs → (given : ℕ) (c : Circuit) → c.ticket ≡ given + 1 → c.width ≡ width → c.arcs ≡ arcs → entry_fits (given + 1) (entry_of false c) ≡ true
+held_fit net t width arcs p given c ticket w a =
+    entry_from (given + 1) (entry_of false c) (record {
+      some_ticket = omega (arith, ticket);
+      ticket_given = omega (arith, ticket);
+      some_width = omega (arith, w, p.some_width);
+      some_arcs = rw a p.some_arcs;
+      few_arcs = rw a p.few_arcs;
+      arcs_apart = rw a p.arcs_differ;
+    })
 
-module _ {N : Type 0} (l : Ledger N) (k : ℕ) (room : k < length l.rows) (empty : in_use (get_or l.rows k no_row) ≡ false) (circuit : Circuit) where
-  abbrev pub held_row : Row
-  held_row = record { state = Held; ticket = l.given + 1; circuit = circuit }
+pub after_hold : (old next : Row) (c : Circuit) → not (in_use old) ≡ true → next ≡ unwrap_or (row_next old (Hold c)) old → next ≡ Held c
+after_hold Empty next c h e = e
+after_hold (Held d) next c h e = absurd (both_ways _ refl h)
+after_hold (Booked d) next c h e = absurd (both_ways _ refl h)
 
-  old_none : (ticket : ℕ) → cond {A = ℕ} (has_ticket ticket (get_or l.rows k no_row)) 1 0 ≡ 0
-  old_none ticket = ap (λ b. cond (b && eqb (get_or l.rows k no_row).ticket ticket) 1 0) empty
+module _ {N : Type 0} (l : Ledger N) (k : ℕ) (room : k < length l.rows) (empty : not (in_use (get_or l.rows k Empty)) ≡ true)
+    (c : Circuit) (ticket : c.ticket ≡ l.given + 1) (fit : entry_fits (l.given + 1) (entry_of false c) ≡ true) where
+  none_there : {A : Type 0} (f : Entry → A) (d : A) → option_map_or f (row_entry (get_or l.rows k Empty)) d ≡ d
+  none_there f d = go (row_entry (get_or l.rows k Empty)) empty
+    where
+      go : (o : Option Entry) → not (is_some o) ≡ true → option_map_or f o d ≡ d
+      go None h = refl
+      go (Some x) h = absurd (both_ways _ refl h)
 
-  held_one : OneRowEach (set l.rows k held_row)
+  held_one : OneRowEach (set l.rows k (Held c))
   held_one t =
+      let none : cond {A = ℕ} (has_ticket t (get_or l.rows k Empty)) 1 0 ≡ 0 = ap (λ b. cond b 1 0) (none_there (λ x. eqb x.ticket t) false) in
       ⊎_elim
-      (λ e. let none : count_by (has_ticket t) l.rows ≡ 0 = count_new l.given t (omega arith) l.rows l.rows_fit in
-      let yes : cond {A = ℕ} (has_ticket t held_row) 1 0 ≡ 1 = ap (λ b. cond b 1 0) (eq-eqb (l.given + 1) t e) in
-      omega (arith, sum_by-set (λ r. cond (has_ticket t r) 1 0) l.rows k held_row no_row room, old_none t))
-      (λ ne. let no_more : cond {A = ℕ} (has_ticket t held_row) 1 0 ≡ 0 = ap (λ b. cond b 1 0) (ne_eqb (l.given + 1) t ne) in
-      omega (arith, sum_by-set (λ r. cond (has_ticket t r) 1 0) l.rows k held_row no_row room, old_none t, l.one_row_each t))
-      (cases_eq (l.given + 1) t)
+      (λ e. let new : count_by (has_ticket t) l.rows ≡ 0 = count_new l.given t (omega (arith, ticket)) l.rows l.rows_fit in
+      let yes : cond {A = ℕ} (eqb c.ticket t) 1 0 ≡ 1 = ap (λ b. cond b 1 0) (eq-eqb c.ticket t e) in
+      omega (arith, sum_by-set (λ r. cond (has_ticket t r) 1 0) l.rows k (Held c) Empty room))
+      (λ ne. let no : cond {A = ℕ} (eqb c.ticket t) 1 0 ≡ 0 = ap (λ b. cond b 1 0) (ne_eqb c.ticket t ne) in
+      omega (arith, sum_by-set (λ r. cond (has_ticket t r) 1 0) l.rows k (Held c) Empty room, l.one_row_each t))
+      (cases_eq c.ticket t)
 
-  held_fits : circuit_fits circuit ≡ true → all_of (fits (l.given + 1)) (set l.rows k held_row) ≡ true
-  held_fits good =
-      all_put (fits (l.given + 1)) l.rows k held_row (fits_from (l.given + 1) held_row (record { some_ticket = omega arith; ticket_given = omega arith; circuit_fit = good }))
-      (all_so (fits l.given) (fits (l.given + 1)) (fits_more l.given) l.rows l.rows_fit)
+  held_stand : (more : List ArcUse) → ((arc : ℕ) → arc < 256 → (use_at more arc).sold ≡ (use_at l.arcs arc).sold + share arc (entry_of false c)) → Stand (l.given + 1) more (set l.rows k (Held c))
+  held_stand more h =
+      record {
+        one_row_each = held_one;
+        rows_fit = all_put (fits (l.given + 1)) l.rows k (Held c) fit (all_so (fits l.given) (fits (l.given + 1)) (fits_more l.given) l.rows l.rows_fit);
+        sold_is = λ arc la. omega (arith, h arc la, l.sold_is arc la, none_there (share arc) 0, sum_by-set (width_on arc) l.rows k (Held c) Empty room);
+      }
 
-  held_sold : (more : List ℕ) → ((arc : ℕ) → arc < 256 → get_or more arc 0 ≡ get_or l.sold arc 0 + share arc circuit) → SoldIs more (set l.rows k held_row)
-  held_sold more h arc la =
-      let none : width_on arc (get_or l.rows k no_row) ≡ 0 = ap (λ b. cond b (share arc (get_or l.rows k no_row).circuit) 0) empty in
-      omega (arith, h arc la, l.sold_is arc la, sum_by-set (width_on arc) l.rows k held_row no_row room)
+  module _ (next : Row) (held : next ≡ Held c) (more : List ArcUse) (changed : (arc : ℕ) → arc < 256 → among arc c.arcs ≡ true → (use_at more arc).sold ≡ (use_at l.arcs arc).sold + c.width)
+      (others : (arc : ℕ) → among arc c.arcs ≡ false → use_at more arc ≡ use_at l.arcs arc) (closed : (arc : ℕ) → (use_at more arc).closed ≡ (use_at l.arcs arc).closed) where
+    more_sold : (arc : ℕ) → arc < 256 → (use_at more arc).sold ≡ (use_at l.arcs arc).sold + share arc (entry_of false c)
+    more_sold arc la = go (among arc c.arcs) refl
+      where
+        go : (b : Bool) → among arc c.arcs ≡ b → (use_at more arc).sold ≡ (use_at l.arcs arc).sold + cond (among arc c.arcs) c.width 0
+        go true m = changed arc la m ∙ ap (λ b. (use_at l.arcs arc).sold + cond b c.width 0) (sym m)
+        go false m = ap (λ u. u.sold) (others arc m) ∙ (sym (add-zero (use_at l.arcs arc).sold) ∙ ap (λ b. (use_at l.arcs arc).sold + cond b c.width 0) (sym m))
 
-  pub after_hold : (r' : Row) → r' ≡ row_after (get_or l.rows k no_row) (Hold (l.given + 1) circuit) → r' ≡ held_row
-  after_hold r' e = e ∙ after_allowed (get_or l.rows k no_row) (Hold (l.given + 1) circuit) (not-false (state_is Empty (get_or l.rows k no_row).state) empty)
+    pub hold_stand : Stand c.ticket more (set l.rows k next)
+    hold_stand = rw held (subst (λ n. Stand n more (set l.rows k (Held c))) (sym ticket) (held_stand more more_sold))
 
-  pub held_facts : circuit_fits circuit ≡ true → (r' : Row) → r' ≡ held_row → (more : List ℕ) → ((arc : ℕ) → arc < 256 → get_or more arc 0 ≡ get_or l.sold arc 0 + share arc circuit)
-      → OneRowEach (set l.rows k r') × ((all_of (fits (l.given + 1)) (set l.rows k r') ≡ true) × (SoldIs more (set l.rows k r') × Unit {0}))
-  held_facts good r' e more h = rw e (held_one, (held_fits good, (held_sold more h, tt)))
-
-  pub held_tally : (r' : Row) → r' ≡ held_row → (width : ℕ) (arcs : List ℕ) → circuit.width ≡ width → arcs_of circuit ≡ arcs
-      → tally_with l (l.given + 1) (set l.rows k r') ≡ hold_next (ledger_tally l) width arcs
-  held_tally r' e width arcs w a =
-      ap (λ r. tally_with l (l.given + 1) (set l.rows k r)) e
-      ∙ ap (tally_of (λ i. get_or l.closed i false) (l.given + 1)) (hold_entries l.given held_row (omega arith) refl l.rows k room empty l.rows_fit
-      ∙ (ap (λ w. entries_of l.rows ++ (record { ticket = l.given + 1; width = w; arcs = arcs_of circuit; booked = false } ∷ [])) w
-      ∙ ap (λ a. entries_of l.rows ++ (record { ticket = l.given + 1; width = width; arcs = a; booked = false } ∷ [])) a))
+    pub hold_tally : tally_of (λ i. (use_at more i).closed) c.ticket (entries_of (set l.rows k next)) ≡ hold_next (ledger_tally l) c.width c.arcs
+    hold_tally =
+        ap (λ n. tally_of (λ i. (use_at more i).closed) n (entries_of (set l.rows k next))) ticket
+        ∙ (ap (λ r. tally_of (λ i. (use_at more i).closed) (l.given + 1) (entries_of (set l.rows k r))) held
+        ∙ (same_marks _ _ (l.given + 1) (entries_of (set l.rows k (Held c))) closed
+        ∙ (ap (tally_of (λ i. (use_at l.arcs i).closed) (l.given + 1)) (hold_entries l.given c (omega (arith, ticket)) l.rows k room (not-true _ empty) l.rows_fit)
+        ∙ ap (λ n. tally_of (λ i. (use_at l.arcs i).closed) (l.given + 1) (entries_of l.rows ++ (record { ticket = n; width = c.width; arcs = c.arcs; booked = false } ∷ []))) ticket)))

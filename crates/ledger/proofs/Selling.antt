@@ -1,21 +1,19 @@
--- Lemmas on a loop over the arcs of a circuit that adds its width to what is sold, or takes it off, arc by arc.
-use Rattle.std.proofs.Common.{◌≡◌, ℕ, zero, suc, ◌+◌, ◌<◌, ◌≤◌, Bool, true, false, cond, not, ◌||◌, eqb, List, [], ◌∷◌, ◌++◌, length, get_or, take, set, sym, refl, ap, ◌∙◌, ⊎_elim, arith}
+-- Lemmas on a loop over the arcs of a route that changes what is sold on each in turn.
+use Rattle.std.proofs.Common.{◌≡◌, ℕ, zero, suc, ◌+◌, ◌<◌, Bool, true, false, not, ◌||◌, eqb, List, [], ◌∷◌, ◌++◌, length, get_or, take, set, sym, refl, ap, ◌∙◌, subst, ⊎_elim, arith}
 use mathlib.Core.Bool.{or-false}
-use Rattle.std.proofs.lemmas.List.{get_or-set_same, get_or-set_other, get_or-take, length-take-le, take_more, take-take}
-use Rattle.std.proofs.lemmas.Bool.{and_parts, both_ways, cases_eq, eq-eqb, ne_eqb, not-true, or_from}
+use Rattle.std.proofs.lemmas.List.{get_or-set_same, get_or-set_other, length-set, take_more}
+use Rattle.std.proofs.lemmas.List.Folds.{list_any-append}
+use Rattle.std.proofs.lemmas.Bool.{and_parts, both_ways, cases_eq, eq-eqb, ne_eqb, not-true, or_from, or_parts}
 use Rattle.network.specs.Lists.{among, any_of, distinct}
+use Rattle.ledger.specs.declared.arcs.ArcUse.{ArcUse}
+use Rattle.ledger.specs.Rows.{no_use}
 use Rattle.ledger.proofs.Tests.{any_some}
 
 pub any_push : {A : Type 0} (test : A → Bool) (xs : List A) (y : A) → any_of test (xs ++ (y ∷ [])) ≡ (any_of test xs || test y)
-any_push test [] y = or-false (test y)
-any_push test (x ∷ xs) y = go (test x) (any_push test xs y)
-  where
-    go : (b : Bool) → any_of test (xs ++ (y ∷ [])) ≡ (any_of test xs || test y) → (b || any_of test (xs ++ (y ∷ []))) ≡ ((b || any_of test xs) || test y)
-    go true ih = refl
-    go false ih = ih
+any_push test xs y = list_any-append test xs (y ∷ []) ∙ ap (λ b. any_of test xs || b) (or-false (test y))
 
 -- a number of a list of which none stands twice is not among those before it
-apart : (xs : List ℕ) (k : ℕ) → k < length xs → distinct xs ≡ true → among (get_or xs k 0) (take k xs) ≡ false
+pub apart : (xs : List ℕ) (k : ℕ) → k < length xs → distinct xs ≡ true → among (get_or xs k 0) (take k xs) ≡ false
 apart xs zero l h = refl
 apart [] (suc k) l h = absurd (omega arith)
 apart (x ∷ xs) (suc k) l h =
@@ -26,50 +24,44 @@ apart (x ∷ xs) (suc k) l h =
     other n =
         ne_eqb (get_or xs k 0) x (λ e. both_ways (among x xs) n (any_some (eqb x) xs 0 k (omega arith) (eq-eqb x (get_or xs k 0) (sym e))))
 
-pub apart_in : (arcs : List ℕ) (count k a : ℕ) → a ≡ get_or arcs k 0 → k < count → count ≤ length arcs → distinct (take count arcs) ≡ true → among a (take k arcs) ≡ false
-apart_in arcs count k a is l m h =
-    let long : k < length (take count arcs) = omega (arith, length-take-le count arcs m) in
-    let here : among (get_or (take count arcs) k 0) (take k (take count arcs)) ≡ false = apart (take count arcs) k long h in
-    ap (λ j. among j (take k arcs)) is ∙ (rw (get_or-take count arcs k 0 l, take-take k count arcs (omega arith)) at here)
+pub among_at : (xs : List ℕ) (k a : ℕ) → a ≡ get_or xs k 0 → k < length xs → among a xs ≡ true
+among_at xs k a is l = any_some (eqb a) xs 0 k l (eq-eqb a (get_or xs k 0) is)
 
--- the arc at a place stands among the arcs of the circuit
-pub among_in : (arcs : List ℕ) (count k a : ℕ) → a ≡ get_or arcs k 0 → k < count → count ≤ length arcs → among a (take count arcs) ≡ true
-among_in arcs count k a is l m =
-    let long : k < length (take count arcs) = omega (arith, length-take-le count arcs m) in
-    any_some (eqb a) (take count arcs) 0 k long (eq-eqb a (get_or (take count arcs) k 0) (is ∙ sym (get_or-take count arcs k 0 l)))
+abbrev pub use_at : List ArcUse → ℕ → ArcUse
+use_at arcs arc = get_or arcs arc no_use
 
-module _ (change : ℕ → ℕ → ℕ) (same : (x : ℕ) → change x 0 ≡ x) (arcs start : List ℕ) (width : ℕ) where
-  -- the first arcs are done
-  abbrev pub Changed : ℕ → List ℕ → Type 0
-  Changed k sold = (arc : ℕ) → arc < 256 → get_or sold arc 0 ≡ change (get_or start arc 0) (cond (among arc (take k arcs)) width 0)
+-- what is sold on the arcs of a route was changed so that `change` holds of before and after, and all else is as it was
+pub record Changed (change : ℕ → ℕ → Type 0) (route : List ℕ) (start now : List ArcUse) : Type 0 where
+  pub changed : (arc : ℕ) → among arc route ≡ true → change (use_at start arc).sold (use_at now arc).sold
+  pub others : (arc : ℕ) → among arc route ≡ false → use_at now arc ≡ use_at start arc
+  pub closed : (arc : ℕ) → (use_at now arc).closed ≡ (use_at start arc).closed
+  pub long : length now ≡ length start
 
-  pub changed_none : Changed 0 start
-  changed_none arc l = sym (same (get_or start arc 0))
+pub changed_none : (change : ℕ → ℕ → Type 0) (start : List ArcUse) → Changed change [] start start
+changed_none change start = record { changed = λ arc m. absurd (both_ways _ refl m); others = λ arc n. refl; closed = λ arc. refl; long = refl }
 
+module _ (change : ℕ → ℕ → Type 0) (route : List ℕ) (start now : List ArcUse) (k a : ℕ) (inv : Changed change (take k route) start now) (l : k < length route) (is : a ≡ get_or route k 0) (once : distinct route ≡ true) where
   -- before its turn, an arc is as it was
-  pub changed_not_yet : (k a : ℕ) (sold : List ℕ) → Changed k sold → a < 256 → among a (take k arcs) ≡ false → get_or sold a 0 ≡ get_or start a 0
-  changed_not_yet k a sold inv l n = inv a l ∙ (ap (λ b. change (get_or start a 0) (cond b width 0)) n ∙ same (get_or start a 0))
+  pub changed_not_yet : use_at now a ≡ use_at start a
+  changed_not_yet = inv.others a (ap (λ j. among j (take k route)) is ∙ apart route k l once)
 
-  pub changed_more : (k a : ℕ) (sold : List ℕ) → Changed k sold → k < length arcs → a ≡ get_or arcs k 0 → a < 256 → a < length sold → among a (take k arcs) ≡ false
-      → Changed (k + 1) (set sold a (change (get_or sold a 0) width))
-  changed_more k a sold inv l is fit room n arc la =
-      ⊎_elim
-      (λ e. ap (λ j. get_or (set sold a v) j 0) e ∙ (get_or-set_same sold a v 0 room
-      ∙ (ap (λ x. change x width) (changed_not_yet k a sold inv fit n)
-      ∙ (ap (λ j. change (get_or start j 0) width) (sym e) ∙ sym (ap (λ b. change (get_or start arc 0) (cond b width 0)) (more ∙ or_yes (among arc (take k arcs)) (eqb arc a) (eq-eqb arc a e)))))))
-      (λ ne. get_or-set_other sold a arc v 0 ne ∙ (inv arc la ∙ sym (ap (λ b. change (get_or start arc 0) (cond b width 0)) (more ∙ or_no (among arc (take k arcs)) (eqb arc a) (ne_eqb arc a ne)))))
-      (cases_eq arc a)
+  more : (arc : ℕ) → among arc (take (k + 1) route) ≡ (among arc (take k route) || eqb arc a)
+  more arc = ap (among arc) (take_more route k 0 l) ∙ (any_push (eqb arc) (take k route) (get_or route k 0) ∙ ap (λ j. among arc (take k route) || eqb arc j) (sym is))
+
+  before : (arc : ℕ) → (arc ≡ a → ⊥) → (b : Bool) → among arc (take (k + 1) route) ≡ b → among arc (take k route) ≡ b
+  before arc ne b m = sym (or-false _) ∙ (ap (λ d. among arc (take k route) || d) (sym (ne_eqb arc a ne)) ∙ (sym (more arc) ∙ m))
+
+  pub changed_more : (v : ArcUse) → a < length now → v.closed ≡ (use_at now a).closed → change (use_at start a).sold v.sold → Changed change (take (k + 1) route) start (set now a v)
+  changed_more v room kept new =
+      record {
+        changed = λ arc m. ⊎_elim (λ e. rw (here arc e) (subst (λ j. change (use_at start j).sold v.sold) (sym e) new)) (λ ne. rw (other arc ne) (inv.changed arc (before arc ne true m))) (cases_eq arc a);
+        others = λ arc n. ⊎_elim (λ e. absurd (both_ways _ (or_parts _ _ (sym (more arc) ∙ n)).1 (eq-eqb arc a e))) (λ ne. other arc ne ∙ inv.others arc (before arc ne false n)) (cases_eq arc a);
+        closed = λ arc. ⊎_elim (λ e. ap (λ u. u.closed) (here arc e) ∙ (kept ∙ (inv.closed a ∙ ap (λ j. (use_at start j).closed) (sym e)))) (λ ne. ap (λ u. u.closed) (other arc ne) ∙ inv.closed arc) (cases_eq arc a);
+        long = length-set now a v ∙ inv.long;
+      }
     where
-      v : ℕ
-      v = change (get_or sold a 0) width
+      here : (arc : ℕ) → arc ≡ a → use_at (set now a v) arc ≡ v
+      here arc e = ap (use_at (set now a v)) e ∙ get_or-set_same now a v no_use room
 
-      more : among arc (take (k + 1) arcs) ≡ (among arc (take k arcs) || eqb arc a)
-      more = ap (among arc) (take_more arcs k 0 l) ∙ (any_push (eqb arc) (take k arcs) (get_or arcs k 0) ∙ ap (λ j. among arc (take k arcs) || eqb arc j) (sym is))
-
-      or_yes : (b d : Bool) → d ≡ true → (b || d) ≡ true
-      or_yes true d e = refl
-      or_yes false d e = e
-
-      or_no : (b d : Bool) → d ≡ false → (b || d) ≡ b
-      or_no true d e = refl
-      or_no false d e = e
+      other : (arc : ℕ) → (arc ≡ a → ⊥) → use_at (set now a v) arc ≡ use_at now arc
+      other arc ne = get_or-set_other now a arc v no_use ne

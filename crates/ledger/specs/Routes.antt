@@ -1,15 +1,10 @@
 -- Words on the checks of a route.
-use Rattle.std.specs.Prelude.{ℕ, Bool, true, false, not, List, [], ◌∷◌, Option, ◌==◌, nat_lt}
+use Rattle.std.specs.Prelude.{ℕ, not, List, [], ◌∷◌, Option, ◌==◌, nat_lt}
 use Rattle.network.specs.Checks.{Told, refusal, first_failed}
 use Rattle.network.specs.Lists.{any_of, distinct}
 use Rattle.network.specs.Net.{Net}
 use Rattle.length.specs.Walks.{arcs_outside, no_such_arc}
 use Rattle.ledger.specs.Tally.{Tally, free_on, is_joined, sites_met}
-
--- 1 where the test is passed, else the bit
-abbrev pub bit_with : ℕ → Bool → ℕ
-bit_with bit true = 1
-bit_with bit false = bit
 
 -- the checks of a hold that look at its route
 abbrev pub route_refusal : Net → Tally → ℕ → List ℕ → Option Told

@@ -1,121 +1,106 @@
 -- The rows of a ledger: what a call makes of one, and the entries that they stand for.
-use Rattle.std.specs.Prelude.{◌≡◌, ℕ, ◌<◌, ◌≤◌, Bool, true, false, cond, not, ◌&&◌, ◌||◌, List, [], map, take, replicate, sum_by, count_by, filter, ◌==◌, nat_le, nat_lt, slice_index}
-use Rattle.network.specs.Lists.{among, distinct, sort}
+use Rattle.std.specs.Prelude.{◌≡◌, ℕ, ◌<◌, ◌≤◌, Bool, true, false, cond, ◌&&◌, List, length, Some, None, Option, is_some, sum_by, count_by, ◌==◌, nat_le, nat_lt, slice_index_or}
+use Rattle.std.specs.List.{filter_map}
+use Rattle.std.specs.Option.{option_map_or}
+use Rattle.network.specs.Lists.{distinct, sort}
 use Rattle.ledger.specs.declared.row.Circuit.{Circuit}
 use Rattle.ledger.specs.declared.row.Row.{Row}
+use Rattle.ledger.specs.declared.row.Row.TheVariants.{Empty, Held, Booked}
 use Rattle.ledger.specs.declared.row.RowCall.{RowCall}
 use Rattle.ledger.specs.declared.row.RowCall.TheVariants.{Hold, Confirm, LetGo, End}
-use Rattle.ledger.specs.declared.row.RowState.{RowState}
-use Rattle.ledger.specs.declared.row.RowState.TheVariants.{Empty, Held, Booked}
-use Rattle.ledger.specs.Tally.{Entry, is_held, is_booked}
+use Rattle.ledger.specs.declared.arcs.ArcUse.{ArcUse}
+use Rattle.ledger.specs.Tally.{Entry, Tally, confirm_next, is_booked, is_held, is_through, strike_next}
 
--- for where there is none
-abbrev pub no_row : Row
-no_row = record { state = Empty; ticket = 0; circuit = record { width = 0; count = 0; arcs = [] } }
-
--- a row that was never held
-abbrev pub blank_row : Row
-blank_row = record { state = Empty; ticket = 0; circuit = record { width = 0; count = 0; arcs = replicate 15 0 } }
-
-abbrev pub state_is : RowState → RowState → Bool
-state_is Empty Empty = true
-state_is Empty Held = false
-state_is Empty Booked = false
-state_is Held Empty = false
-state_is Held Held = true
-state_is Held Booked = false
-state_is Booked Empty = false
-state_is Booked Held = false
-state_is Booked Booked = true
+-- the circuit in a row in use
+abbrev pub circuit_in : Row → Option Circuit
+circuit_in Empty = None
+circuit_in (Held circuit) = Some circuit
+circuit_in (Booked circuit) = Some circuit
 
 -- What a call makes of a row
 
--- the state that a row has to be in for a call
-abbrev pub asked_state : RowCall → RowState
-asked_state (Hold ticket circuit) = Empty
-asked_state Confirm = Held
-asked_state LetGo = Held
-asked_state End = Booked
-
-abbrev pub allows : RowState → RowCall → Bool
-allows state call = state_is (asked_state call) state
-
-abbrev pub in_state : RowState → Row → Row
-in_state state row = record { state = state; ticket = row.ticket; circuit = row.circuit }
-
--- the call turns a row empty
-abbrev pub empties : RowCall → Bool
-empties (Hold ticket circuit) = false
-empties Confirm = false
-empties LetGo = true
-empties End = true
-
--- the row after a call that its state allows
-abbrev pub row_next : Row → RowCall → Row
-row_next row (Hold ticket circuit) = record { state = Held; ticket = ticket; circuit = circuit }
-row_next row Confirm = in_state Booked row
-row_next row LetGo = in_state Empty row
-row_next row End = in_state Empty row
-
-abbrev pub row_after : Row → RowCall → Row
-row_after row call = cond (allows row.state call) (row_next row call) row
+-- the row after a call, where the row allows the call
+abbrev pub row_next : Row → RowCall → Option Row
+row_next Empty (Hold circuit) = Some (Held circuit)
+row_next (Held circuit) Confirm = Some (Booked circuit)
+row_next (Held circuit) LetGo = Some Empty
+row_next (Booked circuit) End = Some Empty
+row_next _ _ = None
 
 -- The entries that rows stand for
 
--- the row is held or booked
-abbrev pub in_use : Row → Bool
-in_use row = not (state_is Empty row.state)
+abbrev pub entry_of : Bool → Circuit → Entry
+entry_of booked circuit = record { ticket = circuit.ticket; width = circuit.width; arcs = circuit.arcs; booked = booked }
 
-abbrev pub arcs_of : Circuit → List ℕ
-arcs_of circuit = take circuit.count circuit.arcs
-
-abbrev pub row_entry : Row → Entry
-row_entry row =
-    record { ticket = row.ticket; width = row.circuit.width; arcs = arcs_of row.circuit; booked = state_is Booked row.state }
+-- none for an empty row
+abbrev pub row_entry : Row → Option Entry
+row_entry Empty = None
+row_entry (Held circuit) = Some (entry_of false circuit)
+row_entry (Booked circuit) = Some (entry_of true circuit)
 
 abbrev pub earlier : Entry → Entry → Bool
 earlier x y = nat_le x.ticket y.ticket
 
 -- in the order of their tickets
 abbrev pub entries_of : List Row → List Entry
-entries_of rows = sort earlier (map row_entry (filter in_use rows))
+entries_of rows = sort earlier (filter_map row_entry rows)
 
--- the row of a ticket in a state
-abbrev pub row_is : RowState → ℕ → Row → Bool
-row_is state ticket row = state_is state row.state && row.ticket == ticket
+-- the row is held or booked
+abbrev pub in_use : Row → Bool
+in_use row = is_some (row_entry row)
 
--- the entry of a ticket that stands in a row of a state
-abbrev pub held_or_booked : RowState → ℕ → Entry → Bool
-held_or_booked Empty ticket = λ _. false
-held_or_booked Held ticket = is_held ticket
-held_or_booked Booked ticket = is_booked ticket
+-- the row is in use, and its entry passes the test
+abbrev pub row_test : (Entry → Bool) → Row → Bool
+row_test test row = option_map_or test (row_entry row) false
+
+abbrev pub has_ticket : ℕ → Row → Bool
+has_ticket ticket = row_test (λ x. x.ticket == ticket)
+
+-- What a call asks of the tally
+
+-- the entry is one of the ticket that allows the call
+abbrev pub asked : RowCall → ℕ → Entry → Bool
+asked (Hold circuit) ticket = λ _. false
+asked Confirm ticket = is_held ticket
+asked LetGo ticket = is_held ticket
+asked End ticket = is_booked ticket
+
+-- the tally after a call that is allowed
+abbrev pub asked_next : RowCall → Tally → ℕ → Tally
+asked_next (Hold circuit) t ticket = t
+asked_next Confirm t ticket = confirm_next t ticket
+asked_next LetGo t ticket = strike_next t ticket
+asked_next End t ticket = strike_next t ticket
 
 -- What holds of the rows of every ledger
 
-abbrev pub has_ticket : ℕ → Row → Bool
-has_ticket ticket row = in_use row && row.ticket == ticket
-
--- the width that a circuit takes on an arc
-abbrev pub share : ℕ → Circuit → ℕ
-share arc circuit = cond (among arc (arcs_of circuit)) circuit.width 0
+-- the width that an entry takes on an arc
+abbrev pub share : ℕ → Entry → ℕ
+share arc x = cond (is_through arc x) x.width 0
 
 -- the width that a row takes on an arc
 abbrev pub width_on : ℕ → Row → ℕ
-width_on arc row = cond (in_use row) (share arc row.circuit) 0
+width_on arc row = option_map_or (share arc) (row_entry row) 0
 
 -- a circuit has a width and 1 to 15 arcs, none twice
-abbrev pub circuit_fits : Circuit → Bool
-circuit_fits circuit =
-    nat_lt 0 circuit.width && (nat_lt 0 circuit.count && (nat_le circuit.count 15 && distinct (arcs_of circuit)))
+abbrev pub circuit_fits : ℕ → List ℕ → Bool
+circuit_fits width arcs = nat_lt 0 width && (nat_lt 0 (length arcs) && (nat_le (length arcs) 15 && distinct arcs))
 
--- a row in use has one of the tickets that were given, from 1 on, and a circuit
+-- an entry has one of the tickets that were given, from 1 on, and a circuit
+abbrev pub entry_fits : ℕ → Entry → Bool
+entry_fits given x = nat_lt 0 x.ticket && (nat_le x.ticket given && circuit_fits x.width x.arcs)
+
 abbrev pub fits : ℕ → Row → Bool
-fits given row = not (in_use row) || (nat_lt 0 row.ticket && (nat_le row.ticket given && circuit_fits row.circuit))
+fits given row = option_map_or (entry_fits given) (row_entry row) true
 
 -- no ticket stands in two rows
 abbrev pub OneRowEach : List Row → Type 0
 OneRowEach rows = (ticket : ℕ) → count_by (has_ticket ticket) rows ≤ 1
 
+-- for where there is no arc
+abbrev pub no_use : ArcUse
+no_use = record { closed = false; sold = 0 }
+
 -- what is sold on each arc is what the rows take on it
-abbrev pub SoldIs : List ℕ → List Row → Type 0
-SoldIs sold rows = (arc : ℕ) → arc < 256 → slice_index sold arc ≡ sum_by (width_on arc) rows
+abbrev pub SoldIs : List ArcUse → List Row → Type 0
+SoldIs arcs rows = (arc : ℕ) → arc < 256 → (slice_index_or arcs arc no_use).sold ≡ sum_by (width_on arc) rows

@@ -1,5 +1,4 @@
 // The ledger as a network: the network below with free capacities, each answered in constant time.
-ghost use Rattle.std.specs.Prelude.{◌≡◌, ◌-◌, if◌then◌else◌};
 ghost use Rattle.ledger.specs.Ledgers.{ledger_meaning, ledger_tally};
 ghost use Rattle.network.specs.Net.{arc_at};
 ghost use Rattle.ledger.specs.Tally.{free_on, taken_on};
@@ -7,16 +6,6 @@ ghost use Rattle.ledger.specs.Shown.{free_less, shown_formed};
 
 use super::ledger::Ledger;
 use network::{Arc, Network};
-
-// What is free of a capacity: nothing where the arc is closed, else what is not sold.
-fn free_of(capacity: u8, closed: bool, sold: u8) -> u8
-    ensures { result ≡ (if closed then 0 else capacity - sold) }
-{
-    if closed {
-        return 0;
-    }
-    capacity.saturating_sub(sold)
-}
 
 impl<N: Network> Network for Ledger<N> {
     ghost meaning = { ledger_meaning N.Network.meaning };
@@ -36,10 +25,8 @@ impl<N: Network> Network for Ledger<N> {
 
     fn arc(&self, number: u32) -> Option<Arc> {
         let arc = self.network.arc(number)?;
-        let place = number as usize;
-        let free = free_of(arc.capacity, self.closed[place], self.sold[place]);
         Some(Arc {
-            capacity: free,
+            capacity: self.arcs[number as usize].free_of(arc.capacity),
             ..arc
         })
     }

@@ -1,63 +1,44 @@
 // The call that holds capacity along a route.
-ghost use Rattle.std.specs.Prelude.{◌≡◌, ℕ, ◌+◌, ◌<◌, ◌≤◌, true, length, slice_index};
+ghost use Rattle.std.specs.Prelude.{◌≡◌, ◌&&◌, if◌then◌else◌, length, nat_le, nat_lt};
 ghost use Rattle.network.specs.Checks.{answered, outcome};
-ghost use Rattle.network.specs.Lists.{among, distinct};
+ghost use Rattle.network.specs.Lists.{all_of};
 ghost use Rattle.ledger.specs.Ledgers.{ledger_tally};
 ghost use Rattle.ledger.specs.Routes.{route_refusal};
-ghost use Rattle.ledger.specs.Rows.{arcs_of, share};
 ghost use Rattle.ledger.specs.Tally.{hold_next, hold_refusal, next_ticket, unless_refused};
 ghost use Rattle.ledger.specs.Told.{hold_told};
 
+use super::arcs::change_sold;
 use super::ledger::Ledger;
 use super::refusals::HoldRefusal;
 use super::route::{all_exist, are_joined, have_room, sites_apart};
 use super::row::{Circuit, RowCall, apply, empty_row};
 use super::slip::Slip;
-use network::Network;
+use network::{ArcNumbers, Network};
 
-// The circuit of a width along a route.
-fn circuit_of(width: u8, arcs: &[u32]) -> Circuit
-    requires few { length arcs.now ≤ 15 }
-    requires below { (k : ℕ) → k < length arcs.now → slice_index arcs.now k < 256 }
-    ensures width { result.width ≡ width }
-    ensures count { result.count ≡ length arcs.now }
-    ensures arcs { arcs_of result ≡ arcs.now }
+// The numbers of a route as a circuit has them, or none where there are more than 15 or one is above 255.
+fn numbers_of(arcs: &[u32]) -> Option<ArcNumbers>
+    ensures { result ≡ (if nat_le (length arcs.now) 15 && all_of (λ i. nat_lt i 256) arcs.now then Some arcs.now else None) }
 {
-    let mut places = [0u8; 15];
-    for place in 0..arcs.len() {
-        places[place] = arcs[place] as u8;
+    let mut numbers = ArcNumbers::new();
+    for number in arcs {
+        numbers = numbers.with(u8::try_from(*number).ok()?)?;
     }
-    Circuit {
-        width,
-        count: arcs.len() as u8,
-        arcs: places,
-    }
-}
-
-// Takes the width of a circuit on each of its arcs.
-fn sell(sold: &mut [u8; 256], circuit: &Circuit)
-    requires few { circuit.now.count ≤ 15 }
-    requires apart { distinct (arcs_of circuit.now) ≡ true }
-    requires room { (arc : ℕ) → arc < 256 → among arc (arcs_of circuit.now) ≡ true → slice_index sold.old arc + circuit.now.width ≤ 255 }
-    ensures { (arc : ℕ) → arc < 256 → slice_index sold.new arc ≡ slice_index sold.old arc + share arc circuit.now }
-{
-    for place in 0..usize::from(circuit.count) {
-        let arc = usize::from(circuit.arcs[place]);
-        sold[arc] += circuit.width;
-    }
+    Some(numbers)
 }
 
 impl<N: Network> Ledger<N> {
-    // The checks of a hold that look at its route.
-    fn check_route(&self, width: u32, arcs: &[u32]) -> Result<(), HoldRefusal>
-        ensures { outcome (λ x. x) hold_told result ≡ answered (route_refusal (N.Network.meaning self.now.network) (ledger_tally self.now) width arcs.now) tt }
+    // The checks of a hold that look at its route. Answers the width and the arcs as a circuit has them.
+    fn check_route(&self, width: u32, arcs: &[u32]) -> Result<(u8, ArcNumbers), HoldRefusal>
+        ensures { outcome (λ x. x) hold_told result ≡ answered (route_refusal (N.Network.meaning self.now.network) (ledger_tally self.now) width arcs.now) (width, arcs.now) }
     {
         if width == 0 {
             return Err(HoldRefusal::WidthZero);
         }
-        if arcs.len() < 1 || arcs.len() > 15 {
+        if arcs.is_empty() || arcs.len() > 15 {
             return Err(HoldRefusal::ArcsOutside);
         }
+        // no network has an arc of a number above 255
+        let numbers = numbers_of(arcs).ok_or(HoldRefusal::NoSuchArc)?;
         if !all_exist(&self.network, arcs) {
             return Err(HoldRefusal::NoSuchArc);
         }
@@ -67,10 +48,12 @@ impl<N: Network> Ledger<N> {
         if !sites_apart(&self.network, arcs) {
             return Err(HoldRefusal::SiteTwice);
         }
+        // nor one of a capacity above 255
+        let width = u8::try_from(width).map_err(|_| HoldRefusal::NoRoom)?;
         if !have_room(self, arcs, width) {
             return Err(HoldRefusal::NoRoom);
         }
-        Ok(())
+        Ok((width, numbers))
     }
 
     // Turns an empty row held: the width is taken on every arc of a route, and the slip with the next ticket is given. The
@@ -82,17 +65,18 @@ impl<N: Network> Ledger<N> {
         ensures tally { ledger_tally self.new ≡ unless_refused (hold_refusal (N.Network.meaning self.old.network) (ledger_tally self.old) width arcs.now) (hold_next (ledger_tally self.old) width arcs.now) (ledger_tally self.old) }
         ensures network { self.new.network ≡ self.old.network }
     {
-        self.check_route(width, arcs)?;
-        let Some(place) = empty_row(&self.rows) else {
-            return Err(HoldRefusal::NoEmptyRow);
-        };
-        if self.given == u32::MAX {
-            return Err(HoldRefusal::NoTicketLeft);
-        }
-        let ticket = self.given + 1;
-        let circuit = circuit_of(width as u8, arcs);
-        apply(&mut self.rows[place], RowCall::Hold(ticket, circuit));
-        sell(&mut self.sold, &circuit);
+        let (width, arcs) = self.check_route(width, arcs)?;
+        let place = empty_row(&self.rows).ok_or(HoldRefusal::NoEmptyRow)?;
+        let ticket = self.given.checked_add(1).ok_or(HoldRefusal::NoTicketLeft)?;
+        apply(
+            &mut self.rows[place],
+            RowCall::Hold(Circuit {
+                ticket,
+                width,
+                arcs,
+            }),
+        );
+        change_sold(&mut self.arcs, arcs.as_slice(), |sold| sold + width);
         self.given = ticket;
         Ok(Slip::new(ticket))
     }

@@ -1,6 +1,7 @@
 // The circuit ledger: which capacity is held or booked, and which arcs are closed.
 #![tactic(auto)]
 
+mod arcs;
 mod caller;
 pub mod calls;
 pub mod free;

@@ -2,10 +2,12 @@
 ghost use Rattle.std.specs.Prelude.{◌≡◌};
 ghost use Rattle.network.specs.Checks.{answered, outcome};
 ghost use Rattle.ledger.specs.Ledgers.{ledger_tally};
-ghost use Rattle.ledger.specs.Slips.{handed_back, if_refused, slip_in, slip_told};
+ghost use Rattle.ledger.specs.Rows.{asked_next};
+ghost use Rattle.ledger.specs.Slips.{asked_refusal, handed_back, if_refused, slip_in, slip_told};
 ghost use Rattle.ledger.specs.Tally.{confirm_next, slip_refusal, strike_next, unless_refused};
 
 use super::ledger::Ledger;
+use super::row::RowCall;
 use network::{Network, Refusal};
 use std::fmt;
 use std::marker::PhantomData;
@@ -69,6 +71,23 @@ impl<N: Network> Slip<N> {
         self.ticket
     }
 
+    // Puts a call to the row of the slip's ticket, and spends the slip. Handed back where there is no row that allows the call.
+    fn spend(self, ledger: &mut Ledger<N>, call: RowCall) -> Result<(), SlipRefusal<N>>
+        ensures answer { outcome (λ x. x) slip_told result ≡ answered (asked_refusal call (ledger_tally ledger.old) self.ticket) tt }
+        ensures slip { handed_back result ≡ if_refused (asked_refusal call (ledger_tally ledger.old) self.ticket) self }
+        ensures tally { ledger_tally ledger.new ≡ unless_refused (asked_refusal call (ledger_tally ledger.old) self.ticket) (asked_next call (ledger_tally ledger.old) self.ticket) (ledger_tally ledger.old) }
+        ensures network { ledger.new.network ≡ ledger.old.network }
+    {
+        if ledger.turn(self.ticket, call).is_none() {
+            return Err(SlipRefusal::NotHeld(self));
+        }
+        let Slip {
+            ticket: _,
+            network: _,
+        } = self;
+        Ok(())
+    }
+
     // Turns the held row of the slip's ticket booked, and spends the slip. Refused with 40, and the slip handed back, where the
     // ticket is not held here.
     pub fn confirm(self, ledger: &mut Ledger<N>) -> Result<(), SlipRefusal<N>>
@@ -77,14 +96,7 @@ impl<N: Network> Slip<N> {
         ensures tally { ledger_tally ledger.new ≡ unless_refused (slip_refusal (ledger_tally ledger.old) self.ticket) (confirm_next (ledger_tally ledger.old) self.ticket) (ledger_tally ledger.old) }
         ensures network { ledger.new.network ≡ ledger.old.network }
     {
-        if !ledger.confirm_ticket(self.ticket) {
-            return Err(SlipRefusal::NotHeld(self));
-        }
-        let Slip {
-            ticket: _,
-            network: _,
-        } = self;
-        Ok(())
+        self.spend(ledger, RowCall::Confirm)
     }
 
     // Turns the held row of the slip's ticket empty, and spends the slip. Refused with 40, and the slip handed back, where the
@@ -95,13 +107,6 @@ impl<N: Network> Slip<N> {
         ensures tally { ledger_tally ledger.new ≡ unless_refused (slip_refusal (ledger_tally ledger.old) self.ticket) (strike_next (ledger_tally ledger.old) self.ticket) (ledger_tally ledger.old) }
         ensures network { ledger.new.network ≡ ledger.old.network }
     {
-        if !ledger.let_go_ticket(self.ticket) {
-            return Err(SlipRefusal::NotHeld(self));
-        }
-        let Slip {
-            ticket: _,
-            network: _,
-        } = self;
-        Ok(())
+        self.spend(ledger, RowCall::LetGo)
     }
 }

@@ -1,21 +1,15 @@
--- Two arcs that are not joined, or after the last none.
-use Rattle.std.proofs.Common.{◌≡◌, suc, ◌-◌, get_or, sym, ap, ◌∙◌, arith}
-use Rattle.std.proofs.lemmas.Bool.{ne_eqb}
-use Rattle.network.specs.Net.{arc_at}
-use Rattle.ledger.proofs.Joins.{joined_broken, joined_from}
+-- What is asked of each two arcs that follow one another.
+use Rattle.std.proofs.Common.{ap, ◌∙◌, arith, rules}
+use Rattle.std.specs.Iterator.Runs.{IsWindowsRun}
+use borrow.Author.Tests.{tests}
+use Rattle.ledger.proofs.Joins.{windows_joined}
 use Rattle.ledger.proofs.route.are_joined.Goals as goal
-
-pub returns-then-end_of-start_of : goal.returns-then-end_of-start_of
-returns-then-end_of-start_of g c =
-    let net = g.N.Network.meaning c.args.network.now in
-    let arcs = c.args.arcs.now in
-    let k = c.loop-place.place - 1 in
-    let next : suc k ≡ c.loop-place.place = omega arith in
-    let ends = c.end_of.ensures.is in
-    let starts = c.start_of.ensures.is ∙ ap (λ p. (arc_at net (get_or arcs p 0)).from) (sym next) in
-    sym (joined_broken net arcs k (omega arith) (ne_eqb (arc_at net (get_or arcs k 0)).to (arc_at net (get_or arcs (suc k) 0)).from (λ e. c.if-end_of-start_of.true (ends ∙ (e ∙ sym starts)))))
 
 pub returns : goal.returns
 returns g c =
     let net = g.N.Network.meaning c.args.network.now in
-    sym (joined_from net c.args.arcs.now (λ k l. c.loop-place.invariant k (omega arith)))
+    let h = c.all.ensures.runs in
+    let size = ap (λ s. s.size) h.1 ∙ c.windows.ensures.size in
+    let rest = ap (λ s. s.rest.now) h.1 ∙ c.windows.ensures.rest in
+    let windows : IsWindowsRun h.0 h.0.from.size h.0.from.rest.now = c.windows.ensures.runs h.0 h.0.seen (rw size (omega arith)) in
+    windows_joined net c.args.arcs.now h.0 _ _ (rw (size, rest) at windows) (λ a r f' k. search (rules, tests)) (λ x b k. search (rules, tests)) c.all.result h.2

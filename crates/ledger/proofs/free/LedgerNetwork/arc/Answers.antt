@@ -15,13 +15,8 @@ returns-in_err-arc g c =
     let net = g.N.Network.meaning l.network in
     c.from_residual.ensures ∙ sym (shown_none net (free_on net (ledger_tally l)) c.args.number (nth_none net.arcs c.args.number c.in_err-arc.ensures))
 
-pub bounds-self-place : goal.bounds-self-place
-bounds-self-place g c =
-    let network = c.args.self.now.network in
-    arc_below (g.N.Network.meaning network) (g.met.N.Network.formed network) c.args.number c.in_ok-arc.arc c.in_ok-arc.ensures
-
-pub bounds-self-place-2 : goal.bounds-self-place-2
-bounds-self-place-2 g c =
+pub bounds-self-number : goal.bounds-self-number
+bounds-self-number g c =
     let network = c.args.self.now.network in
     arc_below (g.N.Network.meaning network) (g.met.N.Network.formed network) c.args.number c.in_ok-arc.arc c.in_ok-arc.ensures
 
@@ -35,8 +30,8 @@ returns g c =
     let found = nth_some net.arcs i arc no_arc c.in_ok-arc.ensures in
     let few = arc_below net (g.met.N.Network.formed l.network) i arc c.in_ok-arc.ensures in
     let taken = l.sold_is i few ∙ sym (sum_entries i l.rows) in
-    let free : c.free_of-free.result ≡ free_on net t i =
-    c.free_of-free.ensures
+    let free : c.free_of.result ≡ free_on net t i =
+    c.free_of.ensures
     ∙ (ap (λ n. cond (t.marked i) 0 (arc.capacity - n)) taken ∙ ap (λ (a : Arc). cond (t.marked i) 0 (a.capacity - taken_on t i)) (sym found.1)) in
     ap (λ n. Some (with_capacity n arc)) free
     ∙ (ap (λ (a : Arc). Some (with_capacity (free_on net t i) a)) (sym found.1) ∙ sym (shown_some net (free_on net t) i found.0))

@@ -1,99 +1,97 @@
 -- The checks run in order; where all pass, the empty row turns held, and its entry comes last.
-use Rattle.std.proofs.Common.{ℕ, ◌<◌, length, Ok, Err, sym, refl, ap, ◌∙◌, arith, rules}
+use Rattle.std.proofs.Common.{◌≡◌, ℕ, ◌+◌, ◌<◌, ◌≤◌, get_or, not, Ok, Err, sym, refl, ap, ◌∙◌, arith, rules}
+use Rattle.std.proofs.lemmas.Bool.{not-true}
+use Rattle.std.proofs.lemmas.List.Quantifiers.{position-Some}
 use Rattle.std.proofs.lemmas.Result.{err_from_is_err_and}
-use Rattle.network.specs.Checks.{answered, outcome}
+use Rattle.network.specs.Checks.{answered, outcome, refusal}
 use Rattle.network.specs.Lists.{among, distinct}
 use Rattle.ledger.specs.Ledgers.{ledger_tally}
 use Rattle.ledger.specs.Routes.{route_refusal}
+use Rattle.ledger.specs.Rows.{in_use}
+use Rattle.ledger.specs.declared.row.Circuit.{Circuit}
+use Rattle.ledger.specs.declared.row.Row.TheVariants.{Empty}
 use Rattle.ledger.specs.declared.slip.Slip.{Slip}
 use Rattle.ledger.specs.Told.{hold_told}
 use Rattle.ledger.specs.Tally.{hold_next, next_ticket, unless_refused}
-use Rattle.ledger.proofs.Holds.{after_hold, arcs_below, failed_some, held_facts, held_tally, hold_failed, hold_full, hold_granted, hold_no_ticket, passed_none, room_for, route_passed, width_fits}
-use Rattle.ledger.proofs.Standing.{circuit_from, length_entries, sum_entries}
+use Rattle.ledger.proofs.Holds.{after_hold, failed_some, held_fit, hold_failed, hold_full, hold_granted, hold_no_ticket, hold_stand, hold_tally, passed_is, passed_none, room_for, route_passed}
+use Rattle.ledger.proofs.Selling.{use_at}
+use Rattle.ledger.proofs.Standing.{entries_full, entries_room, sum_entries}
+use Rattle.ledger.proofs.Turns.{full_of}
 use Rattle.ledger.proofs.ledger.Ledger.hold.Goals as goal
 
-pub returns-in_err-check_route : goal.returns-in_err-check_route
-returns-in_err-check_route g c =
+pub returns-in_err-width : goal.returns-in_err-width
+returns-in_err-width g c =
     let l = c.args.self.now in
     let net = g.N.Network.meaning l.network in
     let t = ledger_tally l in
     let width = c.args.width in
     let arcs = c.args.arcs.now in
-    let told = hold_told c.in_err-check_route.field-0.0 in
-    let refused = hold_failed net t width arcs told (failed_some (route_refusal net t width arcs) told c.in_err-check_route.ensures) in
+    let told = hold_told c.in_err-width.field-0.0 in
+    let refused = hold_failed net t width arcs told (failed_some (width, arcs) (route_refusal net t width arcs) told c.in_err-width.ensures) in
     let p = err_from_is_err_and c.from_residual.result c.from_residual.ensures.1 in
     record {
-      answer =
-          ap (outcome {A = Slip g.row.N.Denot} {B = ℕ} (λ slip. slip.ticket) hold_told) p.1 ∙ (ap (λ r. Err (hold_told r)) p.2 ∙ sym (ap (λ o. answered o (next_ticket t)) refused));
+      answer = ap (outcome {A = Slip g.row.N.Denot} {B = ℕ} (λ slip. slip.ticket) hold_told) p.1 ∙ (ap (λ r. Err (hold_told r)) p.2 ∙ sym (ap (λ o. answered o (next_ticket t)) refused));
       tally = sym (ap (λ o. unless_refused o (hold_next t width arcs) t) refused);
       network = refl;
     }
 
-pub returns-in_default : goal.returns-in_default
-returns-in_default g c =
+pub returns-in_err-place : goal.returns-in_err-place
+returns-in_err-place g c =
     let l = c.args.self.now in
     let net = g.N.Network.meaning l.network in
     let t = ledger_tally l in
     let width = c.args.width in
     let arcs = c.args.arcs.now in
-    let passed = passed_none (route_refusal net t width arcs) c.in_ok-check_route.ensures in
-    let full = length_entries l.rows ∙ c.in_default.ensures in
+    let passed = passed_none (width, arcs) (route_refusal net t width arcs) _ c.in_ok-width.ensures in
+    let full = entries_full l.rows (full_of l.rows (sym c.in_err-place.ensures.ok_part ∙ c.empty_row.ensures)) in
     let refused = hold_full net t width arcs passed (omega (arith, full)) in
+    let p = err_from_is_err_and c.from_residual-in_err-place.result c.from_residual-in_err-place.ensures.1 in
+    let told : hold_told p.0 ≡ refusal 36 = search rules in
     record {
-      answer = sym (ap (λ o. answered o (next_ticket t)) refused);
+      answer = ap (outcome {A = Slip g.row.N.Denot} {B = ℕ} (λ slip. slip.ticket) hold_told) p.1 ∙ (ap Err told ∙ sym (ap (λ o. answered o (next_ticket t)) refused));
       tally = sym (ap (λ o. unless_refused o (hold_next t width arcs) t) refused);
       network = refl;
     }
 
-pub returns-then-self : goal.returns-then-self
-returns-then-self g c =
+pub returns-in_err-ticket : goal.returns-in_err-ticket
+returns-in_err-ticket g c =
     let l = c.args.self.now in
     let net = g.N.Network.meaning l.network in
     let t = ledger_tally l in
     let width = c.args.width in
     let arcs = c.args.arcs.now in
-    let passed = passed_none (route_refusal net t width arcs) c.in_ok-check_route.ensures in
-    let room = c.in-Some.ensures.2 in
-    let refused = hold_no_ticket net t width arcs passed (omega (arith, length_entries l.rows, room)) (omega (arith, c.if-self.true)) in
+    let passed = passed_none (width, arcs) (route_refusal net t width arcs) _ c.in_ok-width.ensures in
+    let k = c.in_ok-place.place in
+    let at = position-Some (λ row. not (in_use row)) l.rows k Empty (sym c.empty_row.ensures ∙ c.in_ok-place.ensures.ok_part) in
+    let last : 4294967295 ≤ l.given = search rules in
+    let refused = hold_no_ticket net t width arcs passed (omega (arith, entries_room l.rows k at.0 (not-true _ at.1))) last in
+    let p = err_from_is_err_and c.from_residual-in_err-ticket.result c.from_residual-in_err-ticket.ensures.1 in
+    let told : hold_told p.0 ≡ refusal 37 = search rules in
     record {
-      answer = sym (ap (λ o. answered o (next_ticket t)) refused);
+      answer = ap (outcome {A = Slip g.row.N.Denot} {B = ℕ} (λ slip. slip.ticket) hold_told) p.1 ∙ (ap Err told ∙ sym (ap (λ o. answered o (next_ticket t)) refused));
       tally = sym (ap (λ o. unless_refused o (hold_next t width arcs) t) refused);
       network = refl;
     }
 
-pub overflow_cast-width : goal.overflow_cast-width
-overflow_cast-width g c =
+pub change_sold-requires : goal.change_sold-requires
+change_sold-requires g c =
     let l = c.args.self.now in
     let net = g.N.Network.meaning l.network in
     let t = ledger_tally l in
-    let passed = route_passed net t c.args.width c.args.arcs.now c.in_ok-check_route.ensures in
-    let few = width_fits net (g.met.N.Network.formed l.network) t c.args.width c.args.arcs.now passed in
-    search rules
-
-pub circuit_of-circuit-requires : goal.circuit_of-circuit-requires
-circuit_of-circuit-requires g c =
-    let l = c.args.self.now in
-    let net = g.N.Network.meaning l.network in
-    let t = ledger_tally l in
-    let passed = route_passed net t c.args.width c.args.arcs.now c.in_ok-check_route.ensures in
-    record { few = passed.few_arcs; below = arcs_below net (g.met.N.Network.formed l.network) t c.args.width c.args.arcs.now passed }
-
-pub sell-requires : goal.sell-requires
-sell-requires g c =
-    let l = c.args.self.now in
-    let net = g.N.Network.meaning l.network in
-    let t = ledger_tally l in
-    let circuit = c.circuit_of-circuit.result in
-    let made = c.circuit_of-circuit.ensures in
-    let passed = route_passed net t c.args.width c.args.arcs.now c.in_ok-check_route.ensures in
+    let width = c.args.width in
+    let arcs = c.args.arcs.now in
+    let passed = passed_none (width, arcs) (route_refusal net t width arcs) _ c.in_ok-width.ensures in
+    let same = passed_is (width, arcs) (route_refusal net t width arcs) _ c.in_ok-width.ensures in
+    let checked = route_passed net t width arcs passed in
+    let numbers = c.as_slice.ensures ∙ ap (λ p. p.1) same in
     record {
-      few = omega (arith, made.count, passed.few_arcs);
-      apart = ap distinct made.arcs ∙ passed.arcs_differ;
-      room =
-          λ arc fit m.
-          let at = sym (ap (among arc) made.arcs) ∙ m in
-          let taken = l.sold_is arc fit ∙ sym (sum_entries arc l.rows) in
-          omega (arith, made.width, taken, room_for net (g.met.N.Network.formed l.network) t c.args.width c.args.arcs.now passed arc at);
+      apart = ap distinct numbers ∙ checked.arcs_differ;
+      may =
+          λ arc la m.
+          let taken = l.sold_is arc la ∙ sym (sum_entries arc l.rows) in
+          let room = room_for net (g.met.N.Network.formed l.network) t width arcs checked arc (ap (among arc) (sym numbers) ∙ m) in
+          let fits : (use_at l.arcs arc).sold + c.in_ok-width.width < 256 = omega (arith, ap (λ p. p.0) same, taken, room) in
+          search rules;
     }
 
 pub invariant_of-self : goal.invariant_of-self
@@ -101,22 +99,24 @@ invariant_of-self g c =
     let l = c.args.self.now in
     let net = g.N.Network.meaning l.network in
     let t = ledger_tally l in
-    let k = c.in-Some.place in
-    let circuit = c.circuit_of-circuit.result in
-    let made = c.circuit_of-circuit.ensures in
-    let passed = route_passed net t c.args.width c.args.arcs.now c.in_ok-check_route.ensures in
-    let room : k < length l.rows = search rules in
-    let empty = c.in-Some.ensures.1 in
-    let turned = after_hold l k room empty circuit c.apply.new.row c.apply.ensures.row in
-    let good =
-    circuit_from circuit (record {
-      some_width = omega (arith, made.width, passed.some_width);
-      some_arcs = omega (arith, made.count, passed.some_arcs);
-      few_arcs = omega (arith, made.count, passed.few_arcs);
-      arcs_apart = ap distinct made.arcs ∙ passed.arcs_differ;
-    }) in
-    let facts = held_facts l k room empty circuit good c.apply.new.row turned c.sell.new.sold c.sell.ensures in
-    record { one_row_each = facts.0; rows_fit = facts.1.0; sold_is = facts.1.1.0 }
+    let width = c.args.width in
+    let arcs = c.args.arcs.now in
+    let passed = passed_none (width, arcs) (route_refusal net t width arcs) _ c.in_ok-width.ensures in
+    let same = passed_is (width, arcs) (route_refusal net t width arcs) _ c.in_ok-width.ensures in
+    let checked = route_passed net t width arcs passed in
+    let k = c.in_ok-place.place in
+    let at = position-Some (λ row. not (in_use row)) l.rows k Empty (sym c.empty_row.ensures ∙ c.in_ok-place.ensures.ok_part) in
+    let old = get_or l.rows k c.index-self-place.result in
+    let unused = position-Some (λ row. not (in_use row)) l.rows k c.index-self-place.result (sym c.empty_row.ensures ∙ c.in_ok-place.ensures.ok_part) in
+    let circuit : Circuit = record { ticket = c.in_ok-ticket.ticket; width = c.in_ok-width.width; arcs = c.in_ok-width.arcs } in
+    let ticket : circuit.ticket ≡ l.given + 1 = search rules in
+    let fit = held_fit net t width arcs checked l.given circuit ticket (ap (λ p. p.0) same) (ap (λ p. p.1) same) in
+    let held = after_hold old c.apply.new.row circuit unused.1 c.apply.ensures.row in
+    let stand =
+    hold_stand l k at.0 at.1 circuit ticket fit c.apply.new.row held c.change_sold.new.arcs
+    (λ arc la m. let changed = c.change_sold.ensures.changed arc (ap (among arc) c.as_slice.ensures ∙ m) in search rules)
+    (λ arc m. c.change_sold.ensures.others arc (ap (among arc) c.as_slice.ensures ∙ m)) c.change_sold.ensures.closed in
+    record { one_row_each = stand.one_row_each; rows_fit = stand.rows_fit; sold_is = stand.sold_is }
 
 pub returns : goal.returns
 returns g c =
@@ -125,18 +125,25 @@ returns g c =
     let t = ledger_tally l in
     let width = c.args.width in
     let arcs = c.args.arcs.now in
-    let k = c.in-Some.place in
-    let circuit = c.circuit_of-circuit.result in
-    let made = c.circuit_of-circuit.ensures in
-    let passed = passed_none (route_refusal net t width arcs) c.in_ok-check_route.ensures in
-    let room : k < length l.rows = search rules in
+    let passed = passed_none (width, arcs) (route_refusal net t width arcs) _ c.in_ok-width.ensures in
+    let same = passed_is (width, arcs) (route_refusal net t width arcs) _ c.in_ok-width.ensures in
+    let checked = route_passed net t width arcs passed in
+    let k = c.in_ok-place.place in
+    let at = position-Some (λ row. not (in_use row)) l.rows k Empty (sym c.empty_row.ensures ∙ c.in_ok-place.ensures.ok_part) in
+    let old = get_or l.rows k c.index-self-place.result in
+    let unused = position-Some (λ row. not (in_use row)) l.rows k c.index-self-place.result (sym c.empty_row.ensures ∙ c.in_ok-place.ensures.ok_part) in
+    let circuit : Circuit = record { ticket = c.in_ok-ticket.ticket; width = c.in_ok-width.width; arcs = c.in_ok-width.arcs } in
+    let ticket : circuit.ticket ≡ l.given + 1 = search rules in
+    let fit = held_fit net t width arcs checked l.given circuit ticket (ap (λ p. p.0) same) (ap (λ p. p.1) same) in
+    let held = after_hold old c.apply.new.row circuit unused.1 c.apply.ensures.row in
     let few : l.given < 4294967295 = search rules in
-    let empty = c.in-Some.ensures.1 in
-    let turned = after_hold l k room empty circuit c.apply.new.row c.apply.ensures.row in
-    let granted = hold_granted net t width arcs passed (omega (arith, length_entries l.rows, c.in-Some.ensures.2)) few in
-    let next = held_tally l k room empty circuit c.apply.new.row turned width arcs made.width made.arcs in
+    let granted = hold_granted net t width arcs passed (omega (arith, entries_room l.rows k at.0 (not-true _ at.1))) few in
+    let next =
+    hold_tally l k at.0 at.1 circuit ticket fit c.apply.new.row held c.change_sold.new.arcs
+    (λ arc la m. let changed = c.change_sold.ensures.changed arc (ap (among arc) c.as_slice.ensures ∙ m) in search rules)
+    (λ arc m. c.change_sold.ensures.others arc (ap (among arc) c.as_slice.ensures ∙ m)) c.change_sold.ensures.closed in
     record {
-      answer = ap Ok c.new.ensures ∙ sym (ap (λ o. answered o (next_ticket t)) granted);
-      tally = next ∙ sym (ap (λ o. unless_refused o (hold_next t width arcs) t) granted);
+      answer = ap Ok (c.new.ensures ∙ ticket) ∙ sym (ap (λ o. answered o (next_ticket t)) granted);
+      tally = next ∙ (ap (λ p. hold_next t p.0 p.1) same ∙ sym (ap (λ o. unless_refused o (hold_next t width arcs) t) granted));
       network = refl;
     }

@@ -4,10 +4,7 @@ use Rattle.ledger.proofs.Blank.{fits_blank, one_row_blank, opened_blank, sold_bl
 use Rattle.ledger.proofs.ledger.Ledger.open.Goals as goal
 
 pub invariant_of-result : goal.invariant_of-result
-invariant_of-result g c =
-    let r = c.blank_row.result in
-    let e = c.blank_row.ensures in
-    record { one_row_each = one_row_blank 64 r e; rows_fit = fits_blank 64 r e; sold_is = sold_blank 64 r e 256 }
+invariant_of-result g c = record { one_row_each = one_row_blank 64; rows_fit = fits_blank 64; sold_is = sold_blank 64 256 }
 
 pub returns : goal.returns
-returns g c = record { tally = opened_blank 64 c.blank_row.result c.blank_row.ensures 256; network = refl }
+returns g c = record { tally = opened_blank 64 256; network = refl }

@@ -3,6 +3,7 @@
 
 mod book;
 mod clerk;
+pub mod ending;
 pub mod failure;
 pub mod order;
 mod output;

@@ -1,5 +1,6 @@
 // The slips in hand.
 ghost use Rattle.std.specs.Prelude.{◌≡◌, ◌<◌, true, false, [], ◌∷◌, ◌++◌, is_ok, vec_len, MatchOption, ◌==◌, slice_index};
+ghost use Rattle.std.specs.List.{position};
 ghost use Rattle.network.specs.Lists.{among};
 ghost use Rattle.ledger.specs.Ledgers.{ledger_tally};
 ghost use Rattle.ledger.specs.Slips.{ticket_on};
@@ -40,11 +41,21 @@ impl<N: Network> Pocket<N> {
         self.slips.push_reserved(slip);
     }
 
+    // The place of the slip of a ticket, if it is in hand.
+    fn place_of(&self, ticket: u32) -> Option<usize>
+        ensures { result ≡ position (λ held. ticket == held) (in_hand self.now) }
+    {
+        self.slips
+            .iter()
+            .map(|slip| slip.ticket())
+            .position(|held| ticket == held)
+    }
+
     // Takes the slip of a ticket out, if it is in hand.
     pub(super) fn take(&mut self, ticket: u32) -> Option<Slip<N>>
         ensures { Taken self.old ticket result self.new }
     {
-        let place = self.slips.iter().position(|slip| slip.ticket() == ticket)?;
+        let place = self.place_of(ticket)?;
         Some(self.slips.remove(place))
     }
 

@@ -60,11 +60,8 @@ impl Table {
         if self.arcs.len() >= 256 {
             return Err(Fault::TooManyArcs);
         }
-        let arc = arc_within(self.sites, figures)?;
-        match self.arcs.push(arc) {
-            Ok(()) => Ok(()),
-            Err(_) => Err(Fault::NoMemory),
-        }
+        self.arcs.push(arc_within(self.sites, figures)?)?;
+        Ok(())
     }
 }
 

@@ -17,10 +17,7 @@ pub fn carry_out(rt: &HostRuntime) -> Result<(), Failure> {
         [] | [_] => Ok(print!(rt; "{USAGE}")?),
         [_, "encode", table, sheet] => encode(rt, table, sheet),
         [_, "decode", sheet] => decode(rt, sheet),
-        [_, "ring", sites, weight, delay, jitter, charge, capacity, sheet] => {
-            let figures = [weight, delay, jitter, charge, capacity];
-            ring(rt, sites, figures, sheet)
-        }
+        [_, "ring", numbers @ .., sheet] => ring(rt, numbers, sheet),
         [_, "totals", sheet, destination, width] => {
             totals(rt, sheet, destination.parse()?, width.parse()?)
         }
@@ -73,10 +70,12 @@ fn decode(rt: &HostRuntime, path: &str) -> Result<(), Failure> {
     Ok(())
 }
 
-// Writes the sheet of a ring plan.
-fn ring(rt: &HostRuntime, sites: &str, figures: [&&str; 5], path: &str) -> Result<(), Failure> {
+// Writes the sheet of the ring plan that six numbers give.
+fn ring(rt: &HostRuntime, numbers: &[&str], path: &str) -> Result<(), Failure> {
+    let [sites, weight, delay, jitter, charge, capacity] = numbers else {
+        return Err(Failure::Usage);
+    };
     let sites = sites.parse()?;
-    let [weight, delay, jitter, charge, capacity] = figures;
     let figures = Figures {
         weight: weight.parse()?,
         delay: delay.parse()?,

@@ -39,6 +39,7 @@ pub enum Fault {
 
 // A refusal as the program says it: the number of the check that failed, the bit of a sheet where it did, if there is one,
 // and the reason.
+#[derive(Drop)]
 struct Refused<'a, R> {
     refusal: &'a R,
     bit: Option<u32>,

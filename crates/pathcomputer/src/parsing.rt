@@ -25,7 +25,7 @@ fn take_line(heap: Global, table: &mut Option<Table>, line: &str) -> Result<(), 
     match words.next() {
         None => Ok(()),
         Some("sites") => {
-            let [sites] = read_figures(words)?;
+            let [sites] = read_figures::<1>(words)?;
             if table.is_some() {
                 return Err(Fault::SitesTwice);
             }

@@ -2,8 +2,8 @@
 use Rattle.std.proofs.Common.{◌≡◌, ℕ, ◌+◌, ◌<◌, ◌≤◌, Bool, true, false, not, eqb, ◌⊎◌, List, [], ◌∷◌, ◌++◌, map, length, get_or, take, drop, sym, refl, ap, ◌∙◌, inl, inr, append-nil, None, arith}
 use Rattle.std.specs.List.{position, position_or_len}
 use Rattle.std.proofs.lemmas.Grind.{common_steps}
+use Rattle.std.proofs.lemmas.List.Folds.{list_any_none}
 use Rattle.std.proofs.lemmas.List.Sums.{fails_before_first}
-use Rattle.ledger.proofs.Tests.{any_none}
 use mathlib.Core.List.{map-append}
 use borrow.Author.Tests.{clash}
 use Rattle.std.proofs.lemmas.Bool.{and_from, and_parts, eq-eqb, not-true, not_from_false, ne_eqb, or_from, or_left, or_parts, or_right}
@@ -63,7 +63,7 @@ once_middle u (b ∷ before) after h =
 pub none_found : (test : ℕ → Bool) (xs : List ℕ) → position test xs ≡ None → any_of test xs ≡ false
 none_found test xs e =
     let past : length xs ≤ position_or_len test xs = grind (arith, common_steps) in
-    any_none test xs 0 (λ k l. fails_before_first test xs k 0 (omega arith))
+    list_any_none test xs (λ k d l. fails_before_first test xs k d (omega arith))
 
 -- an item taken out of a list stood between those that are left
 module _ {X : Type 0} (ticket : X → ℕ) where

@@ -101,16 +101,9 @@ fn show_fields(rt: &HostRuntime, figures: Figures) -> Result<()> {
     let mut buffer = [0; 50];
     write_sheet(&RingPlan::new(3, figures)?, &mut buffer)?;
     let arc = Sheet::read(&buffer)?.arc(5).context("no arc 5")?;
-    println!(
-        rt;
+    println!(rt;
         "field: arc 5 from {} to {}: {} {} {} {} {}",
-        arc.from,
-        arc.to,
-        arc.weight,
-        arc.delay,
-        arc.jitter,
-        arc.charge,
-        arc.capacity
+        arc.from, arc.to, arc.weight, arc.delay, arc.jitter, arc.charge, arc.capacity
     )?;
     Ok(())
 }
@@ -165,12 +158,9 @@ fn show_buffer(rt: &HostRuntime, size: usize) -> Result<()> {
         Ok(written) => print!(rt; "{written} bytes written")?,
         Err(refusal) => rt.print(Refused::new(&refusal))?,
     }
-    println!(
-        rt;
+    println!(rt;
         "; byte 0 is {}, byte 49 is {}, byte 50 is {}",
-        buffer[0],
-        buffer[49],
-        buffer[50]
+        buffer[0], buffer[49], buffer[50]
     )?;
     Ok(())
 }

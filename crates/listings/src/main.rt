@@ -26,7 +26,11 @@ struct Case {
 fn open_case(rt: &HostRuntime, line: usize, word: &str) -> Result<Case, ListingsFailure> {
     let bytes = read_bytes(rt.alloc(), word)?;
     let sheet = Sheet::read(bytes.as_slice())?;
-    println!(rt; "{line}: network of {} sites, {} arcs", sheet.sites(), sheet.arcs())?;
+    println!(rt;
+        "{line}: network of {} sites, {} arcs",
+        sheet.sites(),
+        sheet.arcs()
+    )?;
     Ok(Case {
         sheet,
         orders: Vec::new(rt.alloc()),

@@ -1,6 +1,4 @@
 // The order book: which order is at hand, what is said of it, and what was done so far.
-ghost use Rattle.std.specs.Prelude.{◌≡◌, is_ok, is_some};
-
 use super::failure::OrdersFailure;
 use super::order::{NumberedOrder, Order, OrderFault, Subject};
 use super::output::Output;
@@ -42,11 +40,7 @@ impl fmt::Display for Account {
         write!(
             f,
             "orders {}, granted {}, refused {}, not carried out {}, circuits booked {}",
-            self.orders,
-            self.granted,
-            self.refused,
-            self.not_carried_out,
-            self.booked
+            self.orders, self.granted, self.refused, self.not_carried_out, self.booked
         )
     }
 }
@@ -76,7 +70,7 @@ pub(super) struct OrderBook {
     subject: Subject,
     listing: Option<Listing>,
     account: Account,
-    output: Output,
+    pub(super) output: Output,
 }
 
 // The memory for one enquiry.
@@ -118,15 +112,6 @@ impl OrderBook {
         self.orders.len()
     }
 
-    // What a step gave, or none where it failed; nothing is asked after a failure.
-    pub(super) fn given<T, E>(&mut self, step: Result<T, E>) -> Option<T>
-    where
-        OrdersFailure: From<E>,
-        ensures { is_some result ≡ is_ok step }
-    {
-        self.output.given(step)
-    }
-
     // The memory for an enquiry with so many lines.
     pub(super) fn memory(&mut self, lines: u32) -> Option<Memory<u32>> {
         self.output.given(new_memory(self.heap, lines))
@@ -137,10 +122,10 @@ impl OrderBook {
         if self.output.has_failed() {
             return None;
         }
-        let listing = self.listing.as_ref()?;
-        let row = listing.rows.front()?;
+        let Listing { kind, rows } = self.listing.as_ref()?;
+        let row = rows.front()?;
         let arcs = row.arcs.iter().take(row.count as usize).copied();
-        Some((listing.kind, self.output.given(arcs.collect(self.heap))?))
+        Some((*kind, self.output.given(arcs.collect(self.heap))?))
     }
 
     // The next order of the book, or why its line is none.
@@ -149,7 +134,7 @@ impl OrderBook {
             return None;
         }
         let NumberedOrder { line, order } = self.orders.next()?;
-        self.output.go_on(line);
+        self.output.line = line;
         self.account.orders = self.account.orders.saturating_add(1);
         if let Ok(order) = &order {
             self.subject = order.subject();

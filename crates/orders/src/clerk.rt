@@ -38,7 +38,7 @@ impl<N: Network> Clerk<N> {
             Order::Enquire(enquiry, lines) => Request::Enquire(enquiry, self.book.memory(lines)?),
             Order::Hold(width, arcs) => {
                 let room = self.pocket.make_room();
-                self.book.given(room)?;
+                self.book.output.given(room)?;
                 Request::Hold(width, arcs)
             }
             Order::Confirm(ticket) => Request::Confirm(self.slip_of(ticket)?),

@@ -50,12 +50,12 @@ impl Order {
         match self {
             Order::Enquire(enquiry, _) => Subject::Routes(enquiry.kind),
             Order::Hold(_, _) => Subject::Route,
-            Order::Confirm(ticket) | Order::LetGo(ticket) | Order::End(ticket) => Subject::Ticket(
-                *ticket
-            ),
-            Order::Close(number) | Order::Reopen(number) | Order::Free(number) => Subject::Arc(
-                *number
-            ),
+            Order::Confirm(ticket) | Order::LetGo(ticket) | Order::End(ticket) => {
+                Subject::Ticket(*ticket)
+            }
+            Order::Close(number) | Order::Reopen(number) | Order::Free(number) => {
+                Subject::Arc(*number)
+            }
         }
     }
 }

@@ -8,7 +8,7 @@ use std::fmt::Display;
 pub(super) struct Output {
     rt: HostRuntime,
     // the line of the order at hand
-    line: usize,
+    pub(super) line: usize,
     // the first failure
     failure: Option<OrdersFailure>,
 }
@@ -28,7 +28,7 @@ impl Output {
         self.failure.is_some()
     }
 
-    // What a step gave, or none where it failed. The first failure is kept.
+    // What a step gave, or none where it failed. The first failure is kept; nothing is asked after it.
     pub(super) fn given<T, E>(&mut self, step: Result<T, E>) -> Option<T>
     where
         OrdersFailure: From<E>,
@@ -41,11 +41,6 @@ impl Output {
                 None
             }
         }
-    }
-
-    // Goes on to the order on a line.
-    pub(super) fn go_on(&mut self, line: usize) {
-        self.line = line;
     }
 
     // Says something of the order at hand, after the number of its line.

@@ -54,19 +54,15 @@ fn decode(rt: &HostRuntime, path: &str) -> Result<(), Failure> {
     let arcs = sheet.arcs();
     println!(rt; "sites {sites}")?;
     for arc in (0..u32::from(arcs)).filter_map(|number| sheet.arc(number)) {
-        println!(
-            rt;
+        println!(rt;
             "arc {} {} {} {} {} {} {}",
-            arc.from,
-            arc.to,
-            arc.weight,
-            arc.delay,
-            arc.jitter,
-            arc.charge,
-            arc.capacity
+            arc.from, arc.to, arc.weight, arc.delay, arc.jitter, arc.charge, arc.capacity
         )?;
     }
-    println!(rt; "# read {path}: {sites} sites, {arcs} arcs, {} bytes", bytes.len())?;
+    println!(rt;
+        "# read {path}: {sites} sites, {arcs} arcs, {} bytes",
+        bytes.len()
+    )?;
     Ok(())
 }
 

@@ -69,13 +69,13 @@ pub enum Failure {
     #[error("malformed table: it has no line 'sites'")]
     NoSites,
     // the library refused
-    #[error("{}", Refused { refusal: .0, bit: None })]
+    #[error("{}", Refused {refusal: .0, bit: None})]
     Ring(#[from] RingRefusal),
-    #[error("{}", Refused { refusal: .0, bit: .0.position() })]
+    #[error("{}", Refused {refusal: .0, bit: .0.position()})]
     Read(#[from] ReadRefusal),
-    #[error("{}", Refused { refusal: .0, bit: None })]
+    #[error("{}", Refused {refusal: .0, bit: None})]
     Write(#[from] WriteRefusal),
-    #[error("{}", Refused { refusal: .0, bit: None })]
+    #[error("{}", Refused {refusal: .0, bit: None})]
     Totals(#[from] LeastTotalsRefusal),
     // a file or a stream
     #[error(transparent)]

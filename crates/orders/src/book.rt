@@ -45,6 +45,11 @@ impl fmt::Display for Account {
     }
 }
 
+// Counts one more.
+fn count_one(count: &mut u32) {
+    *count = count.saturating_add(1);
+}
+
 // Arc numbers with '-' between them.
 #[derive(Drop)]
 struct Joined<'a>(&'a [u32]);
@@ -135,7 +140,7 @@ impl OrderBook {
         }
         let NumberedOrder { line, order } = self.orders.next()?;
         self.output.line = line;
-        self.account.orders = self.account.orders.saturating_add(1);
+        count_one(&mut self.account.orders);
         if let Ok(order) = &order {
             self.subject = order.subject();
         }
@@ -144,19 +149,19 @@ impl OrderBook {
 
     // Says that the order at hand is granted.
     pub(super) fn granted<D: fmt::Display + Drop>(&mut self, what: D) {
-        self.account.granted = self.account.granted.saturating_add(1);
+        count_one(&mut self.account.granted);
         self.output.say(what);
     }
 
     // Says why the order at hand is not carried out.
     pub(super) fn not_carried_out<D: fmt::Display + Drop>(&mut self, why: D) {
-        self.account.not_carried_out = self.account.not_carried_out.saturating_add(1);
+        count_one(&mut self.account.not_carried_out);
         self.output.say(why);
     }
 
     // Says that the order at hand is refused, by the number of the check and in words.
     pub(super) fn refused<R: Refusal>(&mut self, refusal: &R) {
-        self.account.refused = self.account.refused.saturating_add(1);
+        count_one(&mut self.account.refused);
         self.output
             .say(format_args!("refused {} {refusal}", refusal.number()));
     }
@@ -177,7 +182,7 @@ impl OrderBook {
 
     // Counts a circuit that is booked.
     pub(super) fn count_booked(&mut self) {
-        self.account.booked = self.account.booked.saturating_add(1);
+        count_one(&mut self.account.booked);
     }
 
     // Says how many routes an enquiry found and its line count; the routes are said one by one after it.

@@ -14,16 +14,19 @@ pub fn carry_out(rt: &HostRuntime) -> Result<(), Failure> {
     let words: Vec<String> = env::args(rt)?.collect(heap)?;
     let words: Vec<&str> = words.iter().map(|word| word.as_str()).collect(heap)?;
     match words.as_slice() {
-        [] | [_] => Ok(print!(rt; "{USAGE}")?),
+        [] | [_] => {
+            print!(rt; "{USAGE}")?;
+            Ok(())
+        }
         [_, "encode", table, sheet] => encode(rt, table, sheet),
         [_, "decode", sheet] => decode(rt, sheet),
         [_, "ring", numbers @ .., sheet] => ring(rt, numbers, sheet),
         [_, "totals", sheet, destination, width] => {
             totals(rt, sheet, destination.parse()?, width.parse()?)
         }
-        [_, "orders", sheet, orders] => carry_out_text(rt, sheet, orders, None),
-        [_, "orders", sheet, orders, "--headroom", reserve] => {
-            carry_out_text(rt, sheet, orders, Some(reserve.parse()?))
+        [_, "orders", sheet, text] => orders(rt, sheet, text, None),
+        [_, "orders", sheet, text, "--headroom", reserve] => {
+            orders(rt, sheet, text, Some(reserve.parse()?))
         }
         _ => Err(Failure::Usage),
     }
@@ -124,19 +127,14 @@ fn print_row(rt: &HostRuntime, site: u8, columns: &[[Option<u32>; 64]; 6]) -> Re
 }
 
 // Carries out the orders of a text on a new ledger over the network of a sheet, or over headroom on it.
-fn carry_out_text(
-    rt: &HostRuntime,
-    path: &str,
-    text: &str,
-    reserve: Option<u32>,
-) -> Result<(), Failure> {
+fn orders(rt: &HostRuntime, path: &str, text: &str, reserve: Option<u32>) -> Result<(), Failure> {
     let bytes = fs::read(rt, path)?;
     let sheet = Sheet::read(bytes.as_slice())?;
     let text = fs::read_to_string(rt, text)?;
-    let orders = read_orders(rt.alloc(), text.as_str())?;
+    let list = read_orders(rt.alloc(), text.as_str())?;
     match reserve {
-        None => carry_out_orders(rt, sheet, orders)?,
-        Some(reserve) => carry_out_orders(rt, Headroom::new(sheet, reserve), orders)?,
+        None => carry_out_orders(rt, sheet, list)?,
+        Some(reserve) => carry_out_orders(rt, Headroom::new(sheet, reserve), list)?,
     }
     Ok(())
 }

@@ -1,7 +1,8 @@
 // Enquiries and a ledger at their limits: routes of 15 and 16 arcs, every limit on what an enquiry asks, 64 and 65 rows.
+use anyhow::Result;
 use network::{Figures, RingPlan};
-use orders::{NumberedOrder, OrdersFailure, carry_out, read_line};
-use std::alloc::Global;
+use orders::{carry_out, read_line};
+use std::iter::repeat_n;
 
 // Orders on a ring of 64 sites, of which arc 2i runs from site i to the next, and arc 2i + 1 back.
 const ORDERS: &str = "\
@@ -35,21 +36,15 @@ let-go 2
 let-go 3
 ";
 
-// How many holds follow: the last of them finds no empty row.
+// So many holds follow: the last of them finds no empty row.
 const HOLDS: usize = 65;
 
-// Adds one order, on the line after the last.
-fn add(heap: Global, orders: &mut Vec<NumberedOrder>, line: &str) -> Result<(), OrdersFailure> {
-    let number = orders.len().saturating_add(1);
-    if let Some(order) = read_line(heap, number, line) {
-        if orders.push(order).is_err() {
-            return Err(OrdersFailure::NoMemory);
-        }
-    }
-    Ok(())
-}
+const HOLD: &str = "hold 3 0";
 
-pub fn try_circuits(rt: &HostRuntime) -> Result<(), OrdersFailure> {
+// And then these.
+const LAST: [&str; 3] = ["let-go 4", HOLD, "free 0"];
+
+pub fn try_circuits(rt: &HostRuntime) -> Result<()> {
     let figures = Figures {
         weight: 1,
         delay: 2,
@@ -57,19 +52,13 @@ pub fn try_circuits(rt: &HostRuntime) -> Result<(), OrdersFailure> {
         charge: 4,
         capacity: 255,
     };
-    let Ok(plan) = RingPlan::new(64, figures) else {
-        return Ok(());
-    };
+    let plan = RingPlan::new(64, figures)?;
     let heap = rt.alloc();
-    let mut orders = Vec::new(heap);
-    for line in ORDERS.lines() {
-        add(heap, &mut orders, line)?;
-    }
-    for _hold in 0..HOLDS {
-        add(heap, &mut orders, "hold 3 0")?;
-    }
-    add(heap, &mut orders, "let-go 4")?;
-    add(heap, &mut orders, "hold 3 0")?;
-    add(heap, &mut orders, "free 0")?;
-    carry_out(rt, plan, orders)
+    let lines = ORDERS.lines().chain(repeat_n(HOLD, HOLDS)).chain(LAST);
+    let orders = (1..)
+        .zip(lines)
+        .filter_map(|(number, line)| read_line(heap, number, line))
+        .collect(heap)?;
+    carry_out(rt, plan, orders)?;
+    Ok(())
 }

@@ -4,8 +4,8 @@
 
 mod circuits;
 
-use orders::OrdersFailure;
+use anyhow::Result;
 
-fn main(rt: HostRuntime) -> Result<(), OrdersFailure> {
+fn main(rt: HostRuntime) -> Result<()> {
     circuits::try_circuits(&rt)
 }

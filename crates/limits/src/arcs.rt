@@ -1,21 +1,19 @@
 // The length of rows of arcs: 0, 1, 15 and 16 of them, and one that is not there.
+use super::answers::Refused;
+use anyhow::Result;
 use length::{StandardKind, row_length};
-use network::{Figures, Refusal, RingPlan};
+use network::{Figures, RingPlan};
 use std::io;
 
 fn show(rt: &HostRuntime, plan: &RingPlan, kind: StandardKind, arcs: &[u32]) -> io::Result<()> {
-    let count = arcs.len();
-    print!(rt; "row of {count} arcs: ")?;
+    print!(rt; "row of {} arcs: ", arcs.len())?;
     match row_length(plan, &kind, arcs) {
         Ok(length) => println!(rt; "length {length}"),
-        Err(refusal) => {
-            let number = refusal.number();
-            println!(rt; "refused {number}, {refusal}")
-        }
+        Err(refusal) => rt.println(Refused::new(&refusal)),
     }
 }
 
-pub fn try_rows(rt: &HostRuntime) -> io::Result<()> {
+pub fn try_rows(rt: &HostRuntime) -> Result<()> {
     let figures = Figures {
         weight: 4095,
         delay: 2,
@@ -23,9 +21,7 @@ pub fn try_rows(rt: &HostRuntime) -> io::Result<()> {
         charge: 4,
         capacity: 5,
     };
-    let Ok(plan) = RingPlan::new(3, figures) else {
-        return Ok(());
-    };
+    let plan = RingPlan::new(3, figures)?;
     show(rt, &plan, StandardKind::Weight, &[])?;
     show(rt, &plan, StandardKind::Weight, &[5])?;
     show(rt, &plan, StandardKind::Weight, &[0; 15])?;
@@ -37,5 +33,6 @@ pub fn try_rows(rt: &HostRuntime) -> io::Result<()> {
     show(rt, &plan, StandardKind::Weight, &[0; 16])?;
     show(rt, &plan, StandardKind::Weight, &[6])?;
     show(rt, &plan, StandardKind::Weight, &[0, 5, 4294967295])?;
-    show(rt, &plan, StandardKind::Weight, &[6; 16])
+    show(rt, &plan, StandardKind::Weight, &[6; 16])?;
+    Ok(())
 }

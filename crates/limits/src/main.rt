@@ -2,14 +2,15 @@
 // the documents promise stand in the file `stdout`.
 #![tactic(auto)]
 
+mod answers;
 mod arcs;
 mod rings;
 mod sheets;
 mod totals;
 
-use std::io;
+use anyhow::Result;
 
-fn main(rt: HostRuntime) -> io::Result<()> {
+fn main(rt: HostRuntime) -> Result<()> {
     rings::try_rings(&rt)?;
     sheets::try_heads(&rt)?;
     sheets::try_arcs(&rt)?;

@@ -1,5 +1,7 @@
 // Ring plans at both ends of every limit.
-use network::{Figures, Network, Refusal, RingPlan};
+use super::answers::Refused;
+use anyhow::Result;
+use network::{Figures, Network, RingPlan};
 use std::io;
 
 // Prints what a plan of so many sites and these figures answers.
@@ -13,18 +15,12 @@ fn show(rt: &HostRuntime, sites: u32, figures: Figures) -> io::Result<()> {
     } = figures;
     print!(rt; "ring {sites}: {weight} {delay} {jitter} {charge} {capacity}: ")?;
     match RingPlan::new(sites, figures) {
-        Ok(plan) => {
-            let arcs = plan.arcs();
-            println!(rt; "{arcs} arcs")
-        }
-        Err(refusal) => {
-            let number = refusal.number();
-            println!(rt; "refused {number}, {refusal}")
-        }
+        Ok(plan) => println!(rt; "{} arcs", plan.arcs()),
+        Err(refusal) => rt.println(Refused::new(&refusal)),
     }
 }
 
-pub fn try_rings(rt: &HostRuntime) -> io::Result<()> {
+pub fn try_rings(rt: &HostRuntime) -> Result<()> {
     let most = Figures {
         weight: 4095,
         delay: 4095,
@@ -32,57 +28,35 @@ pub fn try_rings(rt: &HostRuntime) -> io::Result<()> {
         charge: 1023,
         capacity: 255,
     };
-    let least = Figures {
-        weight: 0,
-        delay: 0,
-        jitter: 0,
-        charge: 0,
-        capacity: 0,
-    };
     for sites in [0, 2, 3, 64, 65, 259, 4294967295] {
         show(rt, sites, most)?;
     }
-    show(rt, 3, least)?;
-    show(
-        rt,
-        3,
+    show(rt, 3, Figures::default())?;
+    let over = [
         Figures {
             weight: 4096,
             ..most
         },
-    )?;
-    show(
-        rt,
-        3,
         Figures {
             delay: 4096,
             ..most
         },
-    )?;
-    show(
-        rt,
-        3,
         Figures {
             jitter: 1024,
             ..most
         },
-    )?;
-    show(
-        rt,
-        3,
         Figures {
             charge: 1024,
             ..most
         },
-    )?;
-    show(
-        rt,
-        3,
         Figures {
             capacity: 256,
             ..most
         },
-    )?;
+    ];
+    for figures in over {
+        show(rt, 3, figures)?;
+    }
     show(
         rt,
         65,
@@ -95,17 +69,11 @@ pub fn try_rings(rt: &HostRuntime) -> io::Result<()> {
 }
 
 // Prints the ends of a ring's last arcs and what follows them.
-fn show_arcs(rt: &HostRuntime, sites: u32, figures: Figures) -> io::Result<()> {
-    let Ok(plan) = RingPlan::new(sites, figures) else {
-        return Ok(());
-    };
+fn show_arcs(rt: &HostRuntime, sites: u32, figures: Figures) -> Result<()> {
+    let plan = RingPlan::new(sites, figures)?;
     for number in [0, 1, 126, 127, 128, 4294967295] {
         match plan.arc(number) {
-            Some(arc) => {
-                let from = arc.from;
-                let to = arc.to;
-                println!(rt; "ring arc {number}: {from} to {to}")?;
-            }
+            Some(arc) => println!(rt; "ring arc {number}: {} to {}", arc.from, arc.to)?,
             None => println!(rt; "ring arc {number}: none")?,
         }
     }

@@ -1,5 +1,7 @@
 // Sheets: every refusal in its order, both ends of every field, and buffers too short, just long enough and longer.
-use network::{Figures, Network, Refusal, RingPlan};
+use super::answers::Refused;
+use anyhow::{Context, Result};
+use network::{Figures, Network, RingPlan};
 use sheet::{Sheet, write_sheet};
 use std::io;
 
@@ -7,18 +9,11 @@ use std::io;
 fn show(rt: &HostRuntime, name: &str, bytes: &[u8]) -> io::Result<()> {
     print!(rt; "sheet {name}: ")?;
     match Sheet::read(bytes) {
-        Ok(sheet) => {
-            let sites = sheet.sites();
-            let arcs = sheet.arcs();
-            println!(rt; "{sites} sites, {arcs} arcs")
-        }
-        Err(refusal) => {
-            let number = refusal.number();
-            match refusal.position() {
-                Some(bit) => println!(rt; "refused {number} at bit {bit}, {refusal}"),
-                None => println!(rt; "refused {number}, {refusal}"),
-            }
-        }
+        Ok(sheet) => println!(rt; "{} sites, {} arcs", sheet.sites(), sheet.arcs()),
+        Err(refusal) => rt.println(Refused {
+            refusal: &refusal,
+            bit: refusal.position(),
+        }),
     }
 }
 
@@ -30,11 +25,9 @@ fn head(sites: u16, arcs: u16) -> [u8; 2] {
 // A sheet of so many sites and arcs, with every arc from site 0 to site 1, in so many of the first bytes of a larger buffer.
 fn plain_sheet(sites: u16, arcs: u16) -> [u8; 2066] {
     let mut bytes = [0; 2066];
-    let [first, second] = head(sites, arcs);
-    bytes[0] = first;
-    bytes[1] = second;
-    for arc in 0..258usize {
-        bytes[2 + 8 * arc + 1] = 16;
+    bytes[..2].copy_from_slice(&head(sites, arcs));
+    for byte in bytes[3..].iter_mut().step_by(8) {
+        *byte = 16;
     }
     bytes
 }
@@ -67,9 +60,7 @@ pub fn try_heads(rt: &HostRuntime) -> io::Result<()> {
 // A sheet of two arcs, the second between two given numbers.
 fn second_arc(sites: u16, from: u8, to: u8) -> [u8; 18] {
     let mut bytes = [0; 18];
-    let [first, second] = head(sites, 2);
-    bytes[0] = first;
-    bytes[1] = second;
+    bytes[..2].copy_from_slice(&head(sites, 2));
     bytes[3] = 16;
     bytes[10] = (from % 64) * 4 + (to % 64) / 16;
     bytes[11] = (to % 16) * 16;
@@ -105,79 +96,51 @@ pub fn try_arcs(rt: &HostRuntime) -> io::Result<()> {
     show(rt, "with a fault in both arcs", &both)
 }
 
-// Writes a ring of three sites with the same figures on every arc, reads it back, and prints its first arc.
-fn show_fields(rt: &HostRuntime, figures: Figures) -> io::Result<()> {
-    let Ok(plan) = RingPlan::new(3, figures) else {
-        return println!(rt; "no plan");
-    };
+// Writes a ring of three sites with the same figures on every arc, reads it back, and prints its last arc.
+fn show_fields(rt: &HostRuntime, figures: Figures) -> Result<()> {
     let mut buffer = [0; 50];
-    let Ok(_) = write_sheet(&plan, &mut buffer) else {
-        return println!(rt; "no room");
-    };
-    let Ok(sheet) = Sheet::read(&buffer) else {
-        return println!(rt; "no sheet");
-    };
-    let Some(arc) = sheet.arc(5) else {
-        return println!(rt; "no arc");
-    };
-    let from = arc.from;
-    let to = arc.to;
-    let weight = arc.weight;
-    let delay = arc.delay;
-    let jitter = arc.jitter;
-    let charge = arc.charge;
-    let capacity = arc.capacity;
-    println!(rt; "field: arc 5 from {from} to {to}: {weight} {delay} {jitter} {charge} {capacity}")
+    write_sheet(&RingPlan::new(3, figures)?, &mut buffer)?;
+    let arc = Sheet::read(&buffer)?.arc(5).context("no arc 5")?;
+    println!(rt;
+        "field: arc 5 from {} to {}: {} {} {} {} {}",
+        arc.from, arc.to, arc.weight, arc.delay, arc.jitter, arc.charge, arc.capacity
+    )?;
+    Ok(())
 }
 
-pub fn try_fields(rt: &HostRuntime) -> io::Result<()> {
-    let least = Figures {
-        weight: 0,
-        delay: 0,
-        jitter: 0,
-        charge: 0,
-        capacity: 0,
-    };
-    show_fields(rt, least)?;
-    show_fields(
-        rt,
+pub fn try_fields(rt: &HostRuntime) -> Result<()> {
+    let least = Figures::default();
+    let one_at_its_most = [
+        least,
         Figures {
             weight: 4095,
             ..least
         },
-    )?;
-    show_fields(
-        rt,
         Figures {
             delay: 4095,
             ..least
         },
-    )?;
-    show_fields(
-        rt,
         Figures {
             jitter: 1023,
             ..least
         },
-    )?;
-    show_fields(
-        rt,
         Figures {
             charge: 1023,
             ..least
         },
-    )?;
-    show_fields(
-        rt,
         Figures {
             capacity: 255,
             ..least
         },
-    )
+    ];
+    for figures in one_at_its_most {
+        show_fields(rt, figures)?;
+    }
+    Ok(())
 }
 
 // Writes a ring of three sites, 50 bytes, into a part of a buffer of 52 bytes 170, and prints what stands around its end.
-fn show_buffer(rt: &HostRuntime, size: usize) -> io::Result<()> {
+fn show_buffer(rt: &HostRuntime, size: usize) -> Result<()> {
     let figures = Figures {
         weight: 1,
         delay: 2,
@@ -185,28 +148,24 @@ fn show_buffer(rt: &HostRuntime, size: usize) -> io::Result<()> {
         charge: 4,
         capacity: 5,
     };
-    let Ok(plan) = RingPlan::new(3, figures) else {
-        return Ok(());
-    };
+    let plan = RingPlan::new(3, figures)?;
     let mut buffer = [170; 52];
-    if size > 52 {
-        return Ok(());
-    }
+    let part = buffer
+        .get_mut(..size)
+        .context("a buffer has at most 52 bytes here")?;
     print!(rt; "buffer of {size} bytes: ")?;
-    match write_sheet(&plan, &mut buffer[0..size]) {
+    match write_sheet(&plan, part) {
         Ok(written) => print!(rt; "{written} bytes written")?,
-        Err(refusal) => {
-            let number = refusal.number();
-            print!(rt; "refused {number}, {refusal}")?;
-        }
+        Err(refusal) => rt.print(Refused::new(&refusal))?,
     }
-    let first = buffer[0];
-    let last = buffer[49];
-    let after = buffer[50];
-    println!(rt; "; byte 0 is {first}, byte 49 is {last}, byte 50 is {after}")
+    println!(rt;
+        "; byte 0 is {}, byte 49 is {}, byte 50 is {}",
+        buffer[0], buffer[49], buffer[50]
+    )?;
+    Ok(())
 }
 
-pub fn try_buffers(rt: &HostRuntime) -> io::Result<()> {
+pub fn try_buffers(rt: &HostRuntime) -> Result<()> {
     for size in [0, 49, 50, 51] {
         show_buffer(rt, size)?;
     }

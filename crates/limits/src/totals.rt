@@ -1,7 +1,8 @@
 // Least totals: every refusal in its order, the rest of the table, and widths that no arc has.
+use super::answers::Refused;
+use anyhow::{Context, Result};
 use length::{StandardKind, least_totals};
-use network::{Figures, Headroom, Network, Refusal, RingPlan};
-use std::io;
+use network::{Figures, Headroom, Network, RingPlan};
 
 // Works the totals out into a part of a table of five places that hold 7, and prints the answer and all five.
 fn show<N: Network>(
@@ -11,18 +12,15 @@ fn show<N: Network>(
     destination: u32,
     width: u32,
     places: usize,
-) -> io::Result<()> {
-    if places > 5 {
-        return Ok(());
-    }
+) -> Result<()> {
     let mut table = [Some(7); 5];
+    let part = table
+        .get_mut(..places)
+        .context("a table has at most five places here")?;
     print!(rt; "totals to {destination} at width {width} in {places} places: ")?;
-    match least_totals(network, &kind, destination, width, &mut table[0..places]) {
+    match least_totals(network, &kind, destination, width, part) {
         Ok(()) => print!(rt; "done,")?,
-        Err(refusal) => {
-            let number = refusal.number();
-            print!(rt; "refused {number}, {refusal},")?;
-        }
+        Err(refusal) => print!(rt; "{},", Refused::new(&refusal))?,
     }
     for place in table {
         match place {
@@ -30,10 +28,11 @@ fn show<N: Network>(
             None => print!(rt; " -")?,
         }
     }
-    println!(rt; "")
+    println!(rt; "")?;
+    Ok(())
 }
 
-pub fn try_totals(rt: &HostRuntime) -> io::Result<()> {
+pub fn try_totals(rt: &HostRuntime) -> Result<()> {
     let figures = Figures {
         weight: 4095,
         delay: 0,
@@ -41,9 +40,7 @@ pub fn try_totals(rt: &HostRuntime) -> io::Result<()> {
         charge: 4,
         capacity: 255,
     };
-    let Ok(plan) = RingPlan::new(4, figures) else {
-        return Ok(());
-    };
+    let plan = RingPlan::new(4, figures)?;
     show(rt, &plan, StandardKind::Weight, 3, 1, 4)?;
     show(rt, &plan, StandardKind::Weight, 3, 1, 5)?;
     show(rt, &plan, StandardKind::Delay, 0, 255, 5)?;

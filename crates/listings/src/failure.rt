@@ -1,52 +1,24 @@
 // Why the cases are not carried out to the end.
-use anyhow::anyhow;
 use network::Refusal;
 use orders::OrdersFailure;
 use sheet::ReadRefusal;
-use std::{fmt, io};
+use std::alloc::AllocError;
+use std::io;
+use thiserror::Error;
 
-#[derive(Drop)]
+#[derive(Debug, Drop, Error)]
 pub enum ListingsFailure {
     // the bytes of a network are two digits each, 0 to 9 and a to f
+    #[error("a network's bytes are to be hexadecimal digits")]
     NotHex,
-    // an order stands before the first network
+    #[error("an order stands before the first network")]
     NoNetwork,
-    Read(ReadRefusal),
-    Orders(OrdersFailure),
-    Outside(anyhow::Error),
-    NoMemory,
-}
-
-impl fmt::Display for ListingsFailure {
-    fn fmt<W: fmt::Write>(&self, f: &mut fmt::Formatter<W>) -> fmt::Result {
-        match self {
-            ListingsFailure::NotHex => write!(f, "a network's bytes are to be hexadecimal digits"),
-            ListingsFailure::NoNetwork => write!(f, "an order stands before the first network"),
-            ListingsFailure::Read(refusal) => {
-                let number = refusal.number();
-                write!(f, "refused {number}: {refusal}")
-            }
-            ListingsFailure::Orders(failure) => write!(f, "{failure}"),
-            ListingsFailure::Outside(error) => write!(f, "{error}"),
-            ListingsFailure::NoMemory => write!(f, "out of memory"),
-        }
-    }
-}
-
-impl From<ReadRefusal> for ListingsFailure {
-    fn from(refusal: ReadRefusal) -> ListingsFailure {
-        ListingsFailure::Read(refusal)
-    }
-}
-
-impl From<OrdersFailure> for ListingsFailure {
-    fn from(failure: OrdersFailure) -> ListingsFailure {
-        ListingsFailure::Orders(failure)
-    }
-}
-
-impl From<io::Error> for ListingsFailure {
-    fn from(error: io::Error) -> ListingsFailure {
-        ListingsFailure::Outside(anyhow!(error))
-    }
+    #[error("refused {}: {}", .0.number(), *.0)]
+    Read(#[from] ReadRefusal),
+    #[error(transparent)]
+    Orders(#[from] OrdersFailure),
+    #[error(transparent)]
+    Outside(#[from] io::Error),
+    #[error("out of memory")]
+    NoMemory(#[from(alloc)] AllocError),
 }

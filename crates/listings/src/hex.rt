@@ -2,6 +2,7 @@
 use super::failure::ListingsFailure;
 use std::alloc::Global;
 
+// What one digit counts. The crate `hex` would take the digits A to F too.
 fn digit(byte: u8) -> Result<u8, ListingsFailure> {
     match byte {
         b'0'..=b'9' => Ok(byte - b'0'),
@@ -12,22 +13,11 @@ fn digit(byte: u8) -> Result<u8, ListingsFailure> {
 
 // The bytes of a word, two digits for each.
 pub fn read_bytes(heap: Global, word: &str) -> Result<Vec<u8>, ListingsFailure> {
-    let mut bytes = Vec::new(heap);
-    let mut high = None;
-    for byte in word.as_bytes() {
-        let value = digit(*byte)?;
-        match high {
-            None => high = Some(value),
-            Some(first) => {
-                if bytes.push(first << 4 | value).is_err() {
-                    return Err(ListingsFailure::NoMemory);
-                }
-                high = None;
-            }
-        }
-    }
-    match high {
-        Some(_) => Err(ListingsFailure::NotHex),
-        None => Ok(bytes),
-    }
+    let (pairs, []) = word.as_bytes().as_chunks::<2>() else {
+        return Err(ListingsFailure::NotHex);
+    };
+    pairs
+        .iter()
+        .map(|[high, low]| Ok(digit(*high)? << 4 | digit(*low)?))
+        .try_collect(heap)
 }

@@ -9,9 +9,9 @@ mod hex;
 use failure::ListingsFailure;
 use hex::read_bytes;
 use network::Network;
+use orders::ending::exit_code;
 use orders::{NumberedOrder, carry_out, read_line};
 use sheet::Sheet;
-use std::alloc::Global;
 use std::io;
 use std::process::ExitCode;
 
@@ -23,24 +23,21 @@ struct Case {
 }
 
 // Opens a case, and says which network it is over.
-fn open_case(
-    rt: &HostRuntime,
-    heap: Global,
-    line: usize,
-    word: &str,
-) -> Result<Case, ListingsFailure> {
-    let bytes = read_bytes(heap, word)?;
+fn open_case(rt: &HostRuntime, line: usize, word: &str) -> Result<Case, ListingsFailure> {
+    let bytes = read_bytes(rt.alloc(), word)?;
     let sheet = Sheet::read(bytes.as_slice())?;
-    let sites = sheet.sites();
-    let arcs = sheet.arcs();
-    println!(rt; "{line}: network of {sites} sites, {arcs} arcs")?;
+    println!(rt;
+        "{line}: network of {} sites, {} arcs",
+        sheet.sites(),
+        sheet.arcs()
+    )?;
     Ok(Case {
         sheet,
-        orders: Vec::new(heap),
+        orders: Vec::new(rt.alloc()),
     })
 }
 
-// Carries out the orders of a case.
+// Carries out the orders of a case, if there is one.
 fn close_case(rt: &HostRuntime, case: Option<Case>) -> Result<(), ListingsFailure> {
     if let Some(Case { sheet, orders }) = case {
         carry_out(rt, sheet, orders)?;
@@ -50,23 +47,14 @@ fn close_case(rt: &HostRuntime, case: Option<Case>) -> Result<(), ListingsFailur
 
 // Takes every line of a text in turn.
 fn list_all(rt: &HostRuntime, text: &str) -> Result<(), ListingsFailure> {
-    let heap = rt.alloc();
-    let mut case = None;
-    let mut number = 0usize;
-    for line in text.lines() {
-        number = number.saturating_add(1);
+    let mut case: Option<Case> = None;
+    for (number, line) in (1..).zip(text.lines()) {
         if let Some(word) = line.strip_prefix("network ") {
             close_case(rt, case)?;
-            case = Some(open_case(rt, heap, number, word.trim())?);
-        } else if let Some(order) = read_line(heap, number, line) {
-            match &mut case {
-                Some(case) => {
-                    if case.orders.push(order).is_err() {
-                        return Err(ListingsFailure::NoMemory);
-                    }
-                }
-                None => return Err(ListingsFailure::NoNetwork),
-            }
+            case = Some(open_case(rt, number, word.trim())?);
+        } else if let Some(order) = read_line(rt.alloc(), number, line) {
+            let case = case.as_mut().ok_or(ListingsFailure::NoNetwork)?;
+            case.orders.push(order)?;
         }
     }
     close_case(rt, case)
@@ -79,11 +67,5 @@ fn list_input(rt: &HostRuntime) -> Result<(), ListingsFailure> {
 }
 
 fn main(rt: HostRuntime) -> ExitCode {
-    match list_input(&rt) {
-        Ok(()) => ExitCode::SUCCESS,
-        Err(failure) => {
-            let _ = eprintln!(rt; "{failure}");
-            ExitCode::FAILURE
-        }
-    }
+    exit_code(&rt, list_input(&rt))
 }

@@ -7,6 +7,7 @@ use Rattle.network.specs.Lists.{In, all_of, among, any_of}
 use Rattle.network.specs.Net.{Net}
 use Rattle.length.specs.Model.{Model}
 use Rattle.length.proofs.Members.{in_kept}
+use Rattle.ledger.specs.declared.slip.Slip.{Slip}
 use Rattle.ledger.specs.Slips.{ticket_on}
 use Rattle.ledger.specs.Tally.{Entry, Tally, is_booked, close_next, close_refusal, confirm_next, is_held, held_tickets, hold_next, hold_refusal, next_ticket, reopen_next, reopen_refusal, slip_refusal, strike_next, unless_refused}
 use Rattle.desk.specs.Calls.{Answer, HandedBack, enquired, held, confirmed, gone, ended, closed, reopened, taken_or_back}
@@ -16,7 +17,7 @@ use Rattle.desk.specs.declared.requests.Request.{Request}
 use Rattle.desk.specs.declared.requests.Reply.{Reply}
 use Rattle.desk.proofs.Slips.{Sound, distinct_push, held_book, held_ended, held_more, held_struck}
 use Rattle.orders.specs.InHand.{AllHeld, TakenOut, slips_brought, slips_given}
-use Rattle.orders.proofs.Members.{from_last, in_among, in_last, in_left, in_middle, once_middle, the_middle}
+use Rattle.orders.proofs.Members.{from_last, in_among, in_last, in_left, in_middle, once_middle, taken_last, the_middle}
 
 -- a held ticket is not refused
 held_there : (u : ℕ) (xs : List Entry) → In u (map (λ x. x.ticket) (filter (λ x. not x.booked) xs)) → any_of (is_held u) xs ≡ true
@@ -29,7 +30,7 @@ held_there u (x ∷ xs) i = go x.booked refl i (held_there u xs)
     go false e (inl q) ih = or_left _ _ (and_from _ _ (eq-eqb x.ticket u (sym q)) (not_from_false _ e))
     go false e (inr i) ih = or_right _ _ (ih i)
 
-pub not_refused : (t : Tally) (u : ℕ) → In u (held_tickets t) → slip_refusal t u ≡ None
+not_refused : (t : Tally) (u : ℕ) → In u (held_tickets t) → slip_refusal t u ≡ None
 not_refused t u i = ap (λ b. first_failed ((not b, refusal 40) ∷ [])) (held_there u t.entries i)
 
 -- nothing taken out
@@ -40,7 +41,7 @@ all_in : (t t' : Tally) (hand : List ℕ) → held_tickets t ≡ held_tickets t'
 all_in t t' hand same h = record { once = h.once; held = λ v i. subst (In v) same (h.held v i) }
 
 -- one slip taken out, and its ticket held no more
-pub one_less : (t t' : Tally) (u : ℕ) (hand left : List ℕ) → held_tickets t' ≡ filter (λ v. not (eqb v u)) (held_tickets t) → AllHeld t hand → TakenOut hand (u ∷ []) left → AllHeld t' left
+one_less : (t t' : Tally) (u : ℕ) (hand left : List ℕ) → held_tickets t' ≡ filter (λ v. not (eqb v u)) (held_tickets t) → AllHeld t hand → TakenOut hand (u ∷ []) left → AllHeld t' left
 one_less t t' u hand left less h out =
     let was : AllHeld t (out.before ++ u ∷ out.after) = subst (AllHeld t) out.was h in
     let once = once_middle u out.before out.after was.once in
@@ -52,8 +53,19 @@ one_less t t' u hand left less h out =
     } in
     subst (AllHeld t') (sym out.is) rest
 
-pub taken_held : (t : Tally) (u : ℕ) (hand left : List ℕ) → AllHeld t hand → TakenOut hand (u ∷ []) left → In u (held_tickets t)
+taken_held : (t : Tally) (u : ℕ) (hand left : List ℕ) → AllHeld t hand → TakenOut hand (u ∷ []) left → In u (held_tickets t)
 taken_held t u hand left h out = h.held u (subst (In u) (sym out.was) (the_middle u out.before out.after))
+
+-- the last slip in hand can be let go, and the others stay held
+module _ {N : Type 0} (t : Tally) (slips left : List (Slip N)) (slip : Slip N) (whole : slips ≡ left ++ slip ∷ []) (h : AllHeld t (map ticket_on slips)) where
+  pub last_held : slip_refusal t (ticket_on slip) ≡ None
+  last_held = not_refused t (ticket_on slip) (taken_held t (ticket_on slip) (map ticket_on slips) (map ticket_on left) h (taken_last ticket_on slips left slip whole))
+
+  pub others_held : AllHeld (unless_refused (slip_refusal t (ticket_on slip)) (strike_next t (ticket_on slip)) t) (map ticket_on left)
+  others_held =
+      let u = ticket_on slip in
+      subst (λ o. AllHeld (unless_refused o (strike_next t u) t) (map ticket_on left)) (sym last_held)
+      (one_less t (strike_next t u) u (map ticket_on slips) (map ticket_on left) (held_struck u t.entries) h (taken_last ticket_on slips left slip whole))
 
 -- one slip given, under a new ticket
 counted_in : (n v : ℕ) (xs : List Entry) → all_of (λ u. leb u n) (map (λ x. x.ticket) xs) ≡ true → In v (map (λ x. x.ticket) (filter (λ x. not x.booked) xs)) → leb v n ≡ true

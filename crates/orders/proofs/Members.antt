@@ -1,10 +1,14 @@
 -- Lists of tickets with some taken out or put in.
-use Rattle.std.proofs.Common.{◌≡◌, ℕ, ◌+◌, ◌<◌, true, false, not, eqb, ◌⊎◌, List, [], ◌∷◌, ◌++◌, map, length, get_or, take, drop, sym, refl, ap, ◌∙◌, inl, inr, append-nil}
+use Rattle.std.proofs.Common.{◌≡◌, ℕ, ◌+◌, ◌<◌, ◌≤◌, Bool, true, false, not, eqb, ◌⊎◌, List, [], ◌∷◌, ◌++◌, map, length, get_or, take, drop, sym, refl, ap, ◌∙◌, inl, inr, append-nil, None, arith}
+use Rattle.std.specs.List.{position, position_or_len}
+use Rattle.std.proofs.lemmas.Grind.{common_steps}
+use Rattle.std.proofs.lemmas.List.Folds.{list_any_none}
+use Rattle.std.proofs.lemmas.List.Sums.{fails_before_first}
 use mathlib.Core.List.{map-append}
 use borrow.Author.Tests.{clash}
 use Rattle.std.proofs.lemmas.Bool.{and_from, and_parts, eq-eqb, not-true, not_from_false, ne_eqb, or_from, or_left, or_parts, or_right}
 use Rattle.std.proofs.lemmas.List.{drop_more, take-append-drop}
-use Rattle.network.specs.Lists.{In, among, distinct}
+use Rattle.network.specs.Lists.{In, among, any_of, distinct}
 use Rattle.orders.specs.InHand.{TakenOut}
 
 pub in_among : (x : ℕ) (xs : List ℕ) → In x xs → among x xs ≡ true
@@ -54,6 +58,12 @@ once_middle u (b ∷ before) after h =
     let ih = once_middle u before after p.1 in
     let apart = among_middle b u before after (not-true _ p.0) in
     (and_from _ _ (not_from_false _ apart.1) ih.0, or_from _ _ (turned b u apart.0) ih.1)
+
+-- where no item is found, none is there
+pub none_found : (test : ℕ → Bool) (xs : List ℕ) → position test xs ≡ None → any_of test xs ≡ false
+none_found test xs e =
+    let past : length xs ≤ position_or_len test xs = grind (arith, common_steps) in
+    list_any_none test xs (λ k d l. fails_before_first test xs k d (omega arith))
 
 -- an item taken out of a list stood between those that are left
 module _ {X : Type 0} (ticket : X → ℕ) where

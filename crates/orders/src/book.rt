@@ -1,13 +1,15 @@
 // The order book: which order is at hand, what is said of it, and what was done so far.
 use super::failure::OrdersFailure;
-use super::order::{NumberedOrder, Order, OrderFault};
+use super::order::{NumberedOrder, Order, OrderFault, Subject};
+use super::output::Output;
 use desk::Memory;
 use length::{RowRefusal, StandardKind};
 use network::{Arc, Refusal};
-use routes::{Enquiry, EnquiryRefusal, Found, Line, RouteRow};
+use routes::{EnquiryRefusal, Found, Line, RouteRow};
 use std::alloc::{AllocError, Global};
+use std::collections::VecDeque;
+use std::fmt;
 use std::vec::IntoIter;
-use std::{fmt, io};
 
 // How many lines of a notebook count, and how many places a table and a list have.
 const LINES: u32 = 4096;
@@ -16,35 +18,15 @@ const SITES: usize = 64;
 
 const ROWS: usize = 32;
 
-// What is to be asked next, but for the slips that go with it.
-#[derive(Drop)]
-pub(super) enum Task {
-    Enquire(Enquiry<StandardKind>, Memory<u32>),
-    Hold(u32, Vec<u32>),
-    Confirm(u32),
-    LetGo(u32),
-    End(u32),
-    Close(u32),
-    Reopen(u32),
-    Ask(u32),
-    Measure(StandardKind, Vec<u32>),
-    // the line asks for no call
-    Passed,
-    // there is nothing left to ask
-    Done,
-}
-
-// The routes of an answered enquiry: the rows are said one by one, each once its length is known.
+// The routes of an answered enquiry that are still to be said: each is once its length is known.
 #[derive(Drop)]
 struct Listing {
     kind: StandardKind,
-    rows: Vec<RouteRow>,
-    routes: usize,
-    said: usize,
+    rows: VecDeque<RouteRow>,
 }
 
 // How many orders were read, and what became of them.
-#[derive(Clone, Copy)]
+#[derive(Clone, Copy, Default)]
 struct Account {
     orders: u32,
     granted: u32,
@@ -53,21 +35,52 @@ struct Account {
     booked: u32,
 }
 
+impl fmt::Display for Account {
+    fn fmt<W: fmt::Write>(&self, f: &mut fmt::Formatter<W>) -> fmt::Result {
+        write!(
+            f,
+            "orders {}, granted {}, refused {}, not carried out {}, circuits booked {}",
+            self.orders, self.granted, self.refused, self.not_carried_out, self.booked
+        )
+    }
+}
+
+// Counts one more.
+fn count_one(count: &mut u32) {
+    *count = count.saturating_add(1);
+}
+
+// Arc numbers with '-' between them.
+#[derive(Drop)]
+struct Joined<'a>(&'a [u32]);
+
+impl fmt::Display for Joined<'_> {
+    fn fmt<W: fmt::Write>(&self, f: &mut fmt::Formatter<W>) -> fmt::Result {
+        let Some((first, others)) = self.0.split_first() else {
+            return Ok(());
+        };
+        write!(f, "{first}")?;
+        for number in others {
+            write!(f, "-{number}")?;
+        }
+        Ok(())
+    }
+}
+
 #[derive(Drop)]
 pub(super) struct OrderBook {
-    rt: HostRuntime,
+    heap: Global,
     orders: IntoIter<NumberedOrder>,
-    // the line of the order at hand, and the kind, ticket or arc that it names
-    line: usize,
-    kind: StandardKind,
-    number: u32,
+    // what the order at hand is about
+    subject: Subject,
     listing: Option<Listing>,
     account: Account,
-    failure: Option<OrdersFailure>,
+    pub(super) output: Output,
 }
 
 // The memory for one enquiry.
 fn new_memory(heap: Global, lines: u32) -> Result<Memory<u32>, AllocError> {
+    let table = || vec![in heap; None; SITES];
     let blank = RouteRow {
         count: 0,
         arcs: [0; 15],
@@ -76,60 +89,26 @@ fn new_memory(heap: Global, lines: u32) -> Result<Memory<u32>, AllocError> {
         charge: 0,
     };
     Ok(Memory {
-        length: vec![in heap; None; SITES]?,
-        delay: vec![in heap; None; SITES]?,
-        jitter: vec![in heap; None; SITES]?,
-        charge: vec![in heap; None; SITES]?,
-        hops: vec![in heap; None; SITES]?,
+        length: table()?,
+        delay: table()?,
+        jitter: table()?,
+        charge: table()?,
+        hops: table()?,
         notebook: vec![in heap; Line::blank(0); lines.min(LINES) as usize]?,
         list: vec![in heap; blank; ROWS]?,
     })
-}
-
-// The arcs of a row.
-fn arcs_of(heap: Global, row: &RouteRow) -> Result<Vec<u32>, AllocError> {
-    let mut arcs = Vec::new(heap);
-    for number in row.arcs.iter().take(row.count as usize) {
-        arcs.push(*number)?;
-    }
-    Ok(arcs)
-}
-
-// Says a route, its length and its totals.
-fn say_row(rt: &HostRuntime, row: &RouteRow, length: u32) -> io::Result<()> {
-    print!(rt; "  ")?;
-    let mut first = true;
-    for number in row.arcs.iter().take(row.count as usize) {
-        if !first {
-            print!(rt; "-")?;
-        }
-        first = false;
-        print!(rt; "{number}")?;
-    }
-    let delay = row.delay;
-    let jitter = row.jitter;
-    let charge = row.charge;
-    println!(rt; " length {length} delay {delay} jitter {jitter} charge {charge}")
 }
 
 impl OrderBook {
     // A book of orders, none of them carried out.
     pub(super) fn new(rt: HostRuntime, orders: Vec<NumberedOrder>) -> OrderBook {
         OrderBook {
-            rt,
+            heap: rt.alloc(),
             orders: orders.into_iter(),
-            line: 0,
-            kind: StandardKind::Weight,
-            number: 0,
+            subject: Subject::Route,
             listing: None,
-            account: Account {
-                orders: 0,
-                granted: 0,
-                refused: 0,
-                not_carried_out: 0,
-                booked: 0,
-            },
-            failure: None,
+            account: Account::default(),
+            output: Output::new(rt),
         }
     }
 
@@ -138,235 +117,121 @@ impl OrderBook {
         self.orders.len()
     }
 
-    // Keeps the first failure; nothing is asked after it.
-    pub(super) fn note<E: Drop>(&mut self, res: Result<(), E>)
-    where
-        OrdersFailure: From<E>,
-    {
-        if let Err(error) = res {
-            if self.failure.is_none() {
-                self.failure = Some(OrdersFailure::from(error));
-            }
+    // The memory for an enquiry with so many lines.
+    pub(super) fn memory(&mut self, lines: u32) -> Option<Memory<u32>> {
+        self.output.given(new_memory(self.heap, lines))
+    }
+
+    // The next route to be said, as what its length is asked by: a kind and its arcs.
+    pub(super) fn next_route(&mut self) -> Option<(StandardKind, Vec<u32>)> {
+        if self.output.has_failed() {
+            return None;
         }
+        let Listing { kind, rows } = self.listing.as_ref()?;
+        let row = rows.front()?;
+        let arcs = row.arcs.iter().take(row.count as usize).copied();
+        Some((*kind, self.output.given(arcs.collect(self.heap))?))
     }
 
-    // What to ask next.
-    pub(super) fn next_task(&mut self) -> Task {
-        if self.failure.is_some() {
-            return Task::Done;
+    // The next order of the book, or why its line is none.
+    pub(super) fn next_order(&mut self) -> Option<Result<Order, OrderFault>> {
+        if self.output.has_failed() {
+            return None;
         }
-        match self.next_measure() {
-            Ok(Some(task)) => task,
-            Ok(None) => self.next_order(),
-            Err(error) => self.stop(error),
+        let NumberedOrder { line, order } = self.orders.next()?;
+        self.output.line = line;
+        count_one(&mut self.account.orders);
+        if let Ok(order) = &order {
+            self.subject = order.subject();
         }
+        Some(order)
     }
 
-    // Nothing is asked after a failure.
-    fn stop(&mut self, error: AllocError) -> Task {
-        self.note(Err(error));
-        Task::Done
+    // Says that the order at hand is granted.
+    pub(super) fn granted<D: fmt::Display + Drop>(&mut self, what: D) {
+        count_one(&mut self.account.granted);
+        self.output.say(what);
     }
 
-    // The length of the next row to be said, if there is one.
-    fn next_measure(&self) -> Result<Option<Task>, AllocError> {
-        let Some(listing) = &self.listing else {
-            return Ok(None);
-        };
-        if listing.said >= listing.routes {
-            return Ok(None);
-        }
-        match listing.rows.get(listing.said) {
-            Some(row) => Ok(Some(Task::Measure(listing.kind, arcs_of(self.rt.alloc(), row)?))),
-            None => Ok(None),
-        }
-    }
-
-    // The next order of the book.
-    fn next_order(&mut self) -> Task {
-        self.listing = None;
-        let Some(numbered) = self.orders.next() else {
-            return Task::Done;
-        };
-        let NumberedOrder { line, order } = numbered;
-        self.line = line;
-        self.account.orders = self.account.orders.saturating_add(1);
-        match order {
-            Ok(order) => self.begin(order),
-            Err(fault) => {
-                self.not_carried_out();
-                let said = println!(self.rt; "{line}: not an order: {fault}");
-                self.note(said);
-                Task::Passed
-            }
-        }
-    }
-
-    // What an order asks.
-    fn begin(&mut self, order: Order) -> Task {
-        match order {
-            Order::Enquire(enquiry, lines) => {
-                self.kind = enquiry.kind;
-                match new_memory(self.rt.alloc(), lines) {
-                    Ok(memory) => Task::Enquire(enquiry, memory),
-                    Err(error) => self.stop(error),
-                }
-            }
-            Order::Hold(width, arcs) => Task::Hold(width, arcs),
-            Order::Confirm(ticket) => Task::Confirm(self.about(ticket)),
-            Order::LetGo(ticket) => Task::LetGo(self.about(ticket)),
-            Order::End(ticket) => Task::End(self.about(ticket)),
-            Order::Close(arc) => Task::Close(self.about(arc)),
-            Order::Reopen(arc) => Task::Reopen(self.about(arc)),
-            Order::Free(arc) => Task::Ask(self.about(arc)),
-        }
-    }
-
-    // Keeps the ticket or the arc that the order at hand names.
-    fn about(&mut self, number: u32) -> u32 {
-        self.number = number;
-        number
-    }
-
-    fn granted(&mut self) {
-        self.account.granted = self.account.granted.saturating_add(1);
-    }
-
-    fn not_carried_out(&mut self) {
-        self.account.not_carried_out = self.account.not_carried_out.saturating_add(1);
+    // Says why the order at hand is not carried out.
+    pub(super) fn not_carried_out<D: fmt::Display + Drop>(&mut self, why: D) {
+        count_one(&mut self.account.not_carried_out);
+        self.output.say(why);
     }
 
     // Says that the order at hand is refused, by the number of the check and in words.
-    pub(super) fn refused<D: fmt::Display + Drop>(&mut self, number: u32, reason: D) {
-        self.account.refused = self.account.refused.saturating_add(1);
-        let line = self.line;
-        let said = println!(self.rt; "{line}: refused {number} {reason}");
-        self.note(said);
+    pub(super) fn refused<R: Refusal>(&mut self, refusal: &R) {
+        count_one(&mut self.account.refused);
+        self.output
+            .say(format_args!("refused {} {refusal}", refusal.number()));
     }
 
-    // Says that no slip of the ticket is in hand.
-    pub(super) fn no_slip(&mut self) {
-        self.not_carried_out();
-        let line = self.line;
-        let ticket = self.number;
-        let said = println!(self.rt; "{line}: no slip {ticket}");
-        self.note(said);
+    // Says what became of the ticket or the arc that the order at hand is about.
+    pub(super) fn done(&mut self, what: &str) {
+        let subject = self.subject;
+        self.granted(format_args!("{subject} {what}"));
+    }
+
+    // Says what became of it, or that the order is refused.
+    pub(super) fn done_unless_refused<R: Refusal>(&mut self, answer: &Result<(), R>, what: &str) {
+        match answer {
+            Ok(()) => self.done(what),
+            Err(refusal) => self.refused(refusal),
+        }
+    }
+
+    // Counts a circuit that is booked.
+    pub(super) fn count_booked(&mut self) {
+        count_one(&mut self.account.booked);
     }
 
     // Says how many routes an enquiry found and its line count; the routes are said one by one after it.
-    pub(super) fn enquired(&mut self, res: Result<Found, EnquiryRefusal>, memory: Memory<u32>) {
-        match res {
-            Ok(found) => {
-                self.granted();
-                let line = self.line;
-                let routes = found.routes;
-                let lines = found.lines;
-                let said = println!(self.rt; "{line}: {routes} routes, {lines} lines");
-                self.note(said);
-                self.listing = Some(Listing {
-                    kind: self.kind,
-                    rows: memory.list,
-                    routes: routes as usize,
-                    said: 0,
-                });
+    pub(super) fn enquired(&mut self, answer: Result<Found, EnquiryRefusal>, memory: Memory<u32>) {
+        match answer {
+            Ok(Found { routes, lines }) => {
+                self.granted(format_args!("{routes} routes, {lines} lines"));
+                if let Subject::Routes(kind) = self.subject {
+                    let mut rows = VecDeque::from(memory.list);
+                    rows.truncate(routes as usize);
+                    self.listing = Some(Listing { kind, rows });
+                }
             }
-            Err(refusal) => self.refused(refusal.number(), refusal),
+            Err(refusal) => self.refused(&refusal),
         }
     }
 
-    // Says the next route of an enquiry, whose length is now known.
-    pub(super) fn measured(&mut self, res: Result<u32, RowRefusal>) {
-        let Some(listing) = &mut self.listing else {
-            return;
-        };
-        let place = listing.said;
-        listing.said = place.saturating_add(1);
-        match (res, listing.rows.get(place)) {
-            (Ok(length), Some(row)) => {
-                let said = say_row(&self.rt, row, length);
-                self.note(said);
-            }
-            _ => (),
+    // Says the next route of an enquiry: its arcs, its length and its totals.
+    pub(super) fn measured(&mut self, answer: Result<u32, RowRefusal>, arcs: &[u32]) {
+        let next = self
+            .listing
+            .as_mut()
+            .and_then(|listing| listing.rows.pop_front());
+        if let (Ok(length), Some(row)) = (answer, next) {
+            self.output.say_more(format_args!(
+                "  {} length {length} delay {} jitter {} charge {}",
+                Joined(arcs),
+                row.delay,
+                row.jitter,
+                row.charge
+            ));
         }
-    }
-
-    // Says that a hold is granted.
-    pub(super) fn held(&mut self, ticket: u32) {
-        self.granted();
-        let line = self.line;
-        let said = println!(self.rt; "{line}: ticket {ticket}");
-        self.note(said);
-    }
-
-    // Says what became of a ticket.
-    pub(super) fn ticket(&mut self, what: &str) {
-        self.granted();
-        let line = self.line;
-        let ticket = self.number;
-        let said = println!(self.rt; "{line}: ticket {ticket} {what}");
-        self.note(said);
-    }
-
-    // Says that a circuit is booked.
-    pub(super) fn booked(&mut self) {
-        self.account.booked = self.account.booked.saturating_add(1);
-        self.ticket("booked");
-    }
-
-    // Says what became of an arc.
-    pub(super) fn arc(&mut self, what: &str) {
-        self.granted();
-        let line = self.line;
-        let arc = self.number;
-        let said = println!(self.rt; "{line}: arc {arc} {what}");
-        self.note(said);
     }
 
     // Says the free capacity of an arc, or that there is no such arc.
     pub(super) fn shown(&mut self, shown: Option<Arc>) {
-        let line = self.line;
-        let number = self.number;
+        let subject = self.subject;
         match shown {
-            Some(arc) => {
-                self.granted();
-                let capacity = arc.capacity;
-                let said = println!(self.rt; "{line}: arc {number} free {capacity}");
-                self.note(said);
-            }
-            None => {
-                self.not_carried_out();
-                let said = println!(self.rt; "{line}: no arc {number}");
-                self.note(said);
-            }
+            Some(arc) => self.granted(format_args!("{subject} free {}", arc.capacity)),
+            None => self.not_carried_out(format_args!("no {subject}")),
         }
     }
 
     // Says what was done, with the number of slips that were left at the end; or why not all was done.
     pub(super) fn close(self, let_go: u32) -> Result<(), OrdersFailure> {
-        let OrderBook {
-            rt,
-            orders,
-            line: _,
-            kind: _,
-            number: _,
-            listing: _,
-            account,
-            failure,
-        } = self;
-        if let Some(failure) = failure {
-            return Err(failure);
+        let mut output = self.output;
+        if self.orders.len() > 0 {
+            output.given::<(), _>(Err(OrdersFailure::TooManyCalls));
         }
-        if orders.len() > 0 {
-            return Err(OrdersFailure::TooManyCalls);
-        }
-        let orders = account.orders;
-        let granted = account.granted;
-        let refused = account.refused;
-        let not_carried_out = account.not_carried_out;
-        let booked = account.booked;
-        println!(rt;
-            "orders {orders}, granted {granted}, refused {refused}, not carried out {not_carried_out}, circuits booked {booked}, slips let go {let_go}"
-        )?;
-        Ok(())
+        output.close(format_args!("{}, slips let go {let_go}", self.account))
     }
 }

@@ -1,16 +1,17 @@
 // The clerk: makes the calls that the orders of a book ask for, and keeps the slips.
-ghost use Rattle.std.specs.Prelude.{◌≡◌};
+ghost use Rattle.std.specs.Prelude.{◌≡◌, ◌++◌, true, is_err};
 ghost use Rattle.length.specs.Standard.{standard};
 ghost use Rattle.desk.specs.Served.{Due};
-ghost use Rattle.orders.specs.InHand.{Asks, Hears};
+ghost use Rattle.orders.specs.InHand.{Asks, Hears, Room, Taken, came_back, in_hand};
 
-use super::book::{OrderBook, Task};
+use super::book::OrderBook;
 use super::failure::OrdersFailure;
-use super::order::NumberedOrder;
+use super::order::{NumberedOrder, Order};
 use super::pocket::Pocket;
 use desk::{Client, Reply, Request, serve};
+use ledger::{Slip, SlipRefusal};
 use length::StandardKind;
-use network::{Network, Refusal};
+use network::Network;
 
 pub(super) struct Clerk<N> {
     pub(super) pocket: Pocket<N>,
@@ -18,40 +19,45 @@ pub(super) struct Clerk<N> {
 }
 
 impl<N: Network> Clerk<N> {
-    // The request for a task, or none where no call is to be made.
-    fn request(&mut self, task: Task) -> Option<Request<N, StandardKind>>
+    // Takes the slip of a ticket out, or says that none is in hand.
+    fn slip_of(&mut self, ticket: u32) -> Option<Slip<N>>
+        ensures { Taken self.old.pocket ticket result self.new.pocket }
+    {
+        let slip = self.pocket.take(ticket);
+        if slip.is_none() {
+            self.book.not_carried_out(format_args!("no slip {ticket}"));
+        }
+        slip
+    }
+
+    // The request for an order, or none where no call is to be made.
+    fn request(&mut self, order: Order) -> Option<Request<N, StandardKind>>
         ensures { Asks self.old result self.new }
     {
-        match task {
-            Task::Enquire(enquiry, memory) => Some(Request::Enquire(enquiry, memory)),
-            Task::Hold(width, arcs) => {
-                if let Err(error) = self.pocket.make_room() {
-                    self.book.note(Err(error));
-                    return None;
-                }
-                Some(Request::Hold(width, arcs))
+        Some(match order {
+            Order::Enquire(enquiry, lines) => Request::Enquire(enquiry, self.book.memory(lines)?),
+            Order::Hold(width, arcs) => {
+                let room = self.pocket.make_room();
+                self.book.output.given(room)?;
+                Request::Hold(width, arcs)
             }
-            Task::Confirm(ticket) => match self.pocket.take(ticket) {
-                Some(slip) => Some(Request::Confirm(slip)),
-                None => {
-                    self.book.no_slip();
-                    None
-                }
-            },
-            Task::LetGo(ticket) => match self.pocket.take(ticket) {
-                Some(slip) => Some(Request::LetGo(slip)),
-                None => {
-                    self.book.no_slip();
-                    None
-                }
-            },
-            Task::End(ticket) => Some(Request::End(ticket)),
-            Task::Close(arc) => Some(Request::Close(arc)),
-            Task::Reopen(arc) => Some(Request::Reopen(arc)),
-            Task::Ask(arc) => Some(Request::Ask(arc)),
-            Task::Measure(kind, arcs) => Some(Request::Measure(kind, arcs)),
-            Task::Passed => None,
-            Task::Done => None,
+            Order::Confirm(ticket) => Request::Confirm(self.slip_of(ticket)?),
+            Order::LetGo(ticket) => Request::LetGo(self.slip_of(ticket)?),
+            Order::End(ticket) => Request::End(ticket),
+            Order::Close(arc) => Request::Close(arc),
+            Order::Reopen(arc) => Request::Reopen(arc),
+            Order::Free(arc) => Request::Ask(arc),
+        })
+    }
+
+    // Says what became of a slip, and keeps it where it came back.
+    fn spent(&mut self, answer: Result<(), SlipRefusal<N>>, what: &str)
+        requires { is_err answer ≡ true → Room self.old.pocket }
+        ensures { in_hand self.new.pocket ≡ in_hand self.old.pocket ++ came_back answer }
+    {
+        self.book.done_unless_refused(&answer, what);
+        if let Err(refusal) = answer {
+            self.pocket.keep(refusal.slip());
         }
     }
 }
@@ -62,13 +68,19 @@ impl<N: Network> Client<N, StandardKind> for Clerk<N> {
     ghost hears = { Hears };
 
     fn next(&mut self) -> Option<Request<N, StandardKind>> {
-        for _order in 0..self.book.left().saturating_add(1) {
-            let task = self.book.next_task();
-            if let Task::Done = task {
-                return None;
-            }
-            if let Some(request) = self.request(task) {
-                return Some(request);
+        if let Some((kind, arcs)) = self.book.next_route() {
+            return Some(Request::Measure(kind, arcs));
+        }
+        for _order in 0..self.book.left() {
+            match self.book.next_order()? {
+                Ok(order) => {
+                    if let Some(request) = self.request(order) {
+                        return Some(request);
+                    }
+                }
+                Err(fault) => self
+                    .book
+                    .not_carried_out(format_args!("not an order: {fault}")),
             }
         }
         None
@@ -79,30 +91,24 @@ impl<N: Network> Client<N, StandardKind> for Clerk<N> {
         ensures { Hears self.old reply self.new }
     {
         match reply {
-            Reply::Enquired(result, memory) => self.book.enquired(result, memory),
+            Reply::Enquired(answer, memory) => self.book.enquired(answer, memory),
             Reply::Held(Ok(slip), _) => {
-                self.book.held(slip.ticket());
+                self.book.granted(format_args!("ticket {}", slip.ticket()));
                 self.pocket.keep(slip);
             }
-            Reply::Held(Err(refusal), _) => self.book.refused(refusal.number(), refusal),
-            Reply::Confirmed(Ok(())) => self.book.booked(),
-            Reply::Confirmed(Err(refusal)) => {
-                self.book.refused(refusal.number(), &refusal);
-                self.pocket.keep(refusal.slip());
+            Reply::Held(Err(refusal), _) => self.book.refused(&refusal),
+            Reply::Confirmed(answer) => {
+                if answer.is_ok() {
+                    self.book.count_booked();
+                }
+                self.spent(answer, "booked");
             }
-            Reply::LetGo(Ok(())) => self.book.ticket("let go"),
-            Reply::LetGo(Err(refusal)) => {
-                self.book.refused(refusal.number(), &refusal);
-                self.pocket.keep(refusal.slip());
-            }
-            Reply::Ended(Ok(())) => self.book.ticket("ended"),
-            Reply::Ended(Err(refusal)) => self.book.refused(refusal.number(), refusal),
-            Reply::Closed(Ok(())) => self.book.arc("closed"),
-            Reply::Closed(Err(refusal)) => self.book.refused(refusal.number(), refusal),
-            Reply::Reopened(Ok(())) => self.book.arc("reopened"),
-            Reply::Reopened(Err(refusal)) => self.book.refused(refusal.number(), refusal),
+            Reply::LetGo(answer) => self.spent(answer, "let go"),
+            Reply::Ended(answer) => self.book.done_unless_refused(&answer, "ended"),
+            Reply::Closed(answer) => self.book.done_unless_refused(&answer, "closed"),
+            Reply::Reopened(answer) => self.book.done_unless_refused(&answer, "reopened"),
             Reply::Shown(arc) => self.book.shown(arc),
-            Reply::Measured(result, _) => self.book.measured(result),
+            Reply::Measured(answer, arcs) => self.book.measured(answer, arcs.as_slice()),
         }
     }
 }

@@ -3,10 +3,13 @@
 
 mod book;
 mod clerk;
+pub mod ending;
 pub mod failure;
 pub mod order;
+mod output;
 mod pocket;
 mod reading;
+pub mod text;
 
 pub use clerk::carry_out;
 pub use failure::OrdersFailure;

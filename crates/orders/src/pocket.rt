@@ -1,5 +1,6 @@
 // The slips in hand.
 ghost use Rattle.std.specs.Prelude.{◌≡◌, ◌<◌, true, false, [], ◌∷◌, ◌++◌, is_ok, vec_len, MatchOption, ◌==◌, slice_index};
+ghost use Rattle.std.specs.List.{position};
 ghost use Rattle.network.specs.Lists.{among};
 ghost use Rattle.ledger.specs.Ledgers.{ledger_tally};
 ghost use Rattle.ledger.specs.Slips.{ticket_on};
@@ -40,24 +41,14 @@ impl<N: Network> Pocket<N> {
         self.slips.push_reserved(slip);
     }
 
-    // Whether the slip at a place is that of a ticket.
-    fn is_at(&self, place: usize, ticket: u32) -> bool
-        requires { place < vec_len self.now.slips }
-        ensures { result ≡ (ticket == slice_index (in_hand self.now) place) }
-    {
-        ticket == self.slips[place].ticket()
-    }
-
     // The place of the slip of a ticket, if it is in hand.
     fn place_of(&self, ticket: u32) -> Option<usize>
-        ensures { MatchOption result (among ticket (in_hand self.now) ≡ false) (λ place. (place < vec_len self.now.slips) × ((ticket == slice_index (in_hand self.now) place) ≡ true)) }
+        ensures { result ≡ position (λ held. ticket == held) (in_hand self.now) }
     {
-        for place in 0..self.slips.len() {
-            if self.is_at(place, ticket) {
-                return Some(place);
-            }
-        }
-        None
+        self.slips
+            .iter()
+            .map(|slip| slip.ticket())
+            .position(|held| ticket == held)
     }
 
     // Takes the slip of a ticket out, if it is in hand.
@@ -72,11 +63,11 @@ impl<N: Network> Pocket<N> {
     pub(super) fn let_all_go(mut self, ledger: &mut Ledger<N>) -> u32
         requires { AllHeld (ledger_tally ledger.old) (in_hand self) }
     {
-        let mut count = 0u32;
+        let count = u32::try_from(self.slips.len()).unwrap_or(u32::MAX);
         while let Some(slip) = self.slips.pop() {
             match slip.let_go(ledger) {
-                Ok(()) => count = count.saturating_add(1),
-                Err(_) => unreachable(),
+                Ok(()) => {}
+                Err(_) => unreachable!(),
             }
         }
         let Pocket { slips } = self;

@@ -1,5 +1,6 @@
 // Orders read from text: one on a line; what follows a '#' is a comment, and blank lines are passed over.
 use super::order::{NumberedOrder, Order, OrderFault};
+use super::text::words_of;
 use length::StandardKind;
 use routes::{Enquiry, Limits};
 use std::alloc::{AllocError, Global};
@@ -9,41 +10,42 @@ use std::str::SplitWhitespace;
 const NOTEBOOK: u32 = 4096;
 
 fn read_number(word: &str) -> Result<u32, OrderFault> {
-    match word.parse::<u32>() {
-        Ok(number) => Ok(number),
-        Err(_) => Err(OrderFault::NotANumber),
-    }
+    word.parse().map_err(|_| OrderFault::NotANumber)
 }
 
 fn next_word<'a>(words: &mut SplitWhitespace<'a>) -> Result<&'a str, OrderFault> {
-    match words.next() {
-        Some(word) => Ok(word),
-        None => Err(OrderFault::MissingWord),
-    }
+    words.next().ok_or(OrderFault::MissingWord)
 }
 
 fn next_number(words: &mut SplitWhitespace<'_>) -> Result<u32, OrderFault> {
     read_number(next_word(words)?)
 }
 
+// Passes over a word that has to stand there.
+fn expect_word(words: &mut SplitWhitespace<'_>, word: &str) -> Result<(), OrderFault> {
+    if next_word(words)? == word {
+        Ok(())
+    } else {
+        Err(OrderFault::WrongWord)
+    }
+}
+
 // The number after a word that has to stand there.
 fn number_after(words: &mut SplitWhitespace<'_>, label: &str) -> Result<u32, OrderFault> {
-    if next_word(words)? != label {
-        return Err(OrderFault::WrongWord);
-    }
+    expect_word(words, label)?;
     next_number(words)
 }
 
 fn read_kind(word: &str) -> Result<StandardKind, OrderFault> {
-    match word {
-        "weight" => Ok(StandardKind::Weight),
-        "delay" => Ok(StandardKind::Delay),
-        "jitter" => Ok(StandardKind::Jitter),
-        "charge" => Ok(StandardKind::Charge),
-        "hops" => Ok(StandardKind::Hops),
-        "width" => Ok(StandardKind::Width),
-        _ => Err(OrderFault::UnknownKind),
-    }
+    Ok(match word {
+        "weight" => StandardKind::Weight,
+        "delay" => StandardKind::Delay,
+        "jitter" => StandardKind::Jitter,
+        "charge" => StandardKind::Charge,
+        "hops" => StandardKind::Hops,
+        "width" => StandardKind::Width,
+        _ => return Err(OrderFault::UnknownKind),
+    })
 }
 
 fn read_enquiry(words: &mut SplitWhitespace<'_>) -> Result<Enquiry<StandardKind>, OrderFault> {
@@ -57,9 +59,7 @@ fn read_enquiry(words: &mut SplitWhitespace<'_>) -> Result<Enquiry<StandardKind>
         hops: number_after(words, "hops")?,
     };
     let wanted = number_after(words, "wanted")?;
-    if next_word(words)? != "by" {
-        return Err(OrderFault::WrongWord);
-    }
+    expect_word(words, "by")?;
     let kind = read_kind(next_word(words)?)?;
     Ok(Enquiry {
         source,
@@ -82,14 +82,7 @@ fn read_notebook(words: &mut SplitWhitespace<'_>) -> Result<u32, OrderFault> {
 
 // Arc numbers with '-' between them.
 fn read_arcs(heap: Global, word: &str) -> Result<Vec<u32>, OrderFault> {
-    let mut arcs = Vec::new(heap);
-    for part in word.split('-') {
-        let number = read_number(part)?;
-        if arcs.push(number).is_err() {
-            return Err(OrderFault::NoMemory);
-        }
-    }
-    Ok(arcs)
+    word.split('-').map(read_number).try_collect(heap)
 }
 
 fn read_order(
@@ -97,23 +90,17 @@ fn read_order(
     name: &str,
     words: &mut SplitWhitespace<'_>,
 ) -> Result<Order, OrderFault> {
-    match name {
-        "enquire" => {
-            let enquiry = read_enquiry(words)?;
-            Ok(Order::Enquire(enquiry, read_notebook(words)?))
-        }
-        "hold" => {
-            let width = next_number(words)?;
-            Ok(Order::Hold(width, read_arcs(heap, next_word(words)?)?))
-        }
-        "confirm" => Ok(Order::Confirm(next_number(words)?)),
-        "let-go" => Ok(Order::LetGo(next_number(words)?)),
-        "end" => Ok(Order::End(next_number(words)?)),
-        "close" => Ok(Order::Close(next_number(words)?)),
-        "reopen" => Ok(Order::Reopen(next_number(words)?)),
-        "free" => Ok(Order::Free(next_number(words)?)),
-        _ => Err(OrderFault::UnknownOrder),
-    }
+    Ok(match name {
+        "enquire" => Order::Enquire(read_enquiry(words)?, read_notebook(words)?),
+        "hold" => Order::Hold(next_number(words)?, read_arcs(heap, next_word(words)?)?),
+        "confirm" => Order::Confirm(next_number(words)?),
+        "let-go" => Order::LetGo(next_number(words)?),
+        "end" => Order::End(next_number(words)?),
+        "close" => Order::Close(next_number(words)?),
+        "reopen" => Order::Reopen(next_number(words)?),
+        "free" => Order::Free(next_number(words)?),
+        _ => return Err(OrderFault::UnknownOrder),
+    })
 }
 
 // An order and nothing after it.
@@ -123,23 +110,15 @@ fn read_whole(
     words: &mut SplitWhitespace<'_>,
 ) -> Result<Order, OrderFault> {
     let order = read_order(heap, name, words)?;
-    match words.next() {
-        Some(_) => Err(OrderFault::TooManyWords),
-        None => Ok(order),
+    if words.next().is_some() {
+        return Err(OrderFault::TooManyWords);
     }
-}
-
-// A line without its comment.
-fn without_comment(line: &str) -> &str {
-    match line.split_once('#') {
-        Some((before, _)) => before,
-        None => line,
-    }
+    Ok(order)
 }
 
 // What a line of this number asks, or none where it is blank.
 pub fn read_line(heap: Global, number: usize, line: &str) -> Option<NumberedOrder> {
-    let mut words = without_comment(line).split_whitespace();
+    let mut words = words_of(line);
     let name = words.next()?;
     Some(NumberedOrder {
         line: number,
@@ -149,13 +128,8 @@ pub fn read_line(heap: Global, number: usize, line: &str) -> Option<NumberedOrde
 
 // The orders of a text, line by line.
 pub fn read_orders(heap: Global, text: &str) -> Result<Vec<NumberedOrder>, AllocError> {
-    let mut orders = Vec::new(heap);
-    let mut number = 0usize;
-    for line in text.lines() {
-        number = number.saturating_add(1);
-        if let Some(order) = read_line(heap, number, line) {
-            orders.push(order)?;
-        }
-    }
-    Ok(orders)
+    (1..)
+        .zip(text.lines())
+        .filter_map(|(number, line)| read_line(heap, number, line))
+        .collect(heap)
 }

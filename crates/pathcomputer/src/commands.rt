@@ -10,33 +10,25 @@ use std::{env, fs};
 
 // Carries out the command that the program's arguments give.
 pub fn carry_out(rt: &HostRuntime) -> Result<(), Failure> {
-    let words: Vec<String> = env::args(rt)?.collect(rt.alloc())?;
-    if words.len() <= 1 {
-        print!(rt; "{USAGE}")?;
-        return Ok(());
-    }
-    match (words[1].as_str(), words.len()) {
-        ("encode", 4) => encode(rt, words[2].as_str(), words[3].as_str()),
-        ("decode", 3) => decode(rt, words[2].as_str()),
-        ("ring", 9) => ring(rt, &words),
-        ("totals", 5) => totals(rt, words[2].as_str(), words[3].as_str(), words[4].as_str()),
-        ("orders", 4) => orders(rt, words[2].as_str(), words[3].as_str(), None),
-        ("orders", 6) => {
-            if words[4].as_str() != "--headroom" {
-                return Err(Failure::Usage);
-            }
-            let reserve = number(words[5].as_str())?;
-            orders(rt, words[2].as_str(), words[3].as_str(), Some(reserve))
+    let heap = rt.alloc();
+    let words: Vec<String> = env::args(rt)?.collect(heap)?;
+    let words: Vec<&str> = words.iter().map(|word| word.as_str()).collect(heap)?;
+    match words.as_slice() {
+        [] | [_] => {
+            print!(rt; "{USAGE}")?;
+            Ok(())
+        }
+        [_, "encode", table, sheet] => encode(rt, table, sheet),
+        [_, "decode", sheet] => decode(rt, sheet),
+        [_, "ring", numbers @ .., sheet] => ring(rt, numbers, sheet),
+        [_, "totals", sheet, destination, width] => {
+            totals(rt, sheet, destination.parse()?, width.parse()?)
+        }
+        [_, "orders", sheet, text] => orders(rt, sheet, text, None),
+        [_, "orders", sheet, text, "--headroom", reserve] => {
+            orders(rt, sheet, text, Some(reserve.parse()?))
         }
         _ => Err(Failure::Usage),
-    }
-}
-
-// A number in base ten.
-fn number(word: &str) -> Result<u32, Failure> {
-    match word.parse::<u32>() {
-        Ok(number) => Ok(number),
-        Err(_) => Err(Failure::NotANumber),
     }
 }
 
@@ -57,50 +49,40 @@ fn encode(rt: &HostRuntime, table: &str, path: &str) -> Result<(), Failure> {
     save(rt, &network, path)
 }
 
+// Prints a sheet as a table.
 fn decode(rt: &HostRuntime, path: &str) -> Result<(), Failure> {
     let bytes = fs::read(rt, path)?;
     let sheet = Sheet::read(bytes.as_slice())?;
     let sites = sheet.sites();
     let arcs = sheet.arcs();
     println!(rt; "sites {sites}")?;
-    for number in 0..u32::from(arcs) {
-        print_arc(rt, &sheet, number)?;
+    for arc in (0..u32::from(arcs)).filter_map(|number| sheet.arc(number)) {
+        println!(rt;
+            "arc {} {} {} {} {} {} {}",
+            arc.from, arc.to, arc.weight, arc.delay, arc.jitter, arc.charge, arc.capacity
+        )?;
     }
-    let size = bytes.len();
-    println!(rt; "# read {path}: {sites} sites, {arcs} arcs, {size} bytes")?;
+    println!(rt;
+        "# read {path}: {sites} sites, {arcs} arcs, {} bytes",
+        bytes.len()
+    )?;
     Ok(())
 }
 
-// Prints one arc as a line of a table.
-fn print_arc(rt: &HostRuntime, sheet: &Sheet, number: u32) -> Result<(), Failure> {
-    let Some(arc) = sheet.arc(number) else {
-        return Ok(());
-    };
-    let from = arc.from;
-    let to = arc.to;
-    let weight = arc.weight;
-    let delay = arc.delay;
-    let jitter = arc.jitter;
-    let charge = arc.charge;
-    let capacity = arc.capacity;
-    println!(rt; "arc {from} {to} {weight} {delay} {jitter} {charge} {capacity}")?;
-    Ok(())
-}
-
-fn ring(rt: &HostRuntime, words: &Vec<String>) -> Result<(), Failure> {
-    if words.len() < 9 {
+// Writes the sheet of the ring plan that six numbers give.
+fn ring(rt: &HostRuntime, numbers: &[&str], path: &str) -> Result<(), Failure> {
+    let [sites, weight, delay, jitter, charge, capacity] = numbers else {
         return Err(Failure::Usage);
-    }
-    let sites = number(words[2].as_str())?;
-    let figures = Figures {
-        weight: number(words[3].as_str())?,
-        delay: number(words[4].as_str())?,
-        jitter: number(words[5].as_str())?,
-        charge: number(words[6].as_str())?,
-        capacity: number(words[7].as_str())?,
     };
-    let plan = RingPlan::new(sites, figures)?;
-    save(rt, &plan, words[8].as_str())
+    let sites = sites.parse()?;
+    let figures = Figures {
+        weight: weight.parse()?,
+        delay: delay.parse()?,
+        jitter: jitter.parse()?,
+        charge: charge.parse()?,
+        capacity: capacity.parse()?,
+    };
+    save(rt, &RingPlan::new(sites, figures)?, path)
 }
 
 // The kinds of length, in the order of the columns.
@@ -113,30 +95,20 @@ const KINDS: [StandardKind; 6] = [
     StandardKind::Width,
 ];
 
-fn totals(rt: &HostRuntime, path: &str, destination: &str, width: &str) -> Result<(), Failure> {
-    let destination = number(destination)?;
-    let width = number(width)?;
+// Prints the least totals to a destination at a width, site by site.
+fn totals(rt: &HostRuntime, path: &str, destination: u32, width: u32) -> Result<(), Failure> {
     let bytes = fs::read(rt, path)?;
     let sheet = Sheet::read(bytes.as_slice())?;
     let mut columns = [[None; 64]; 6];
-    for column in 0..6 {
-        least_totals(
-            &sheet,
-            &KINDS[column],
-            destination,
-            width,
-            &mut columns[column],
-        )?;
+    for (column, kind) in columns.iter_mut().zip(&KINDS) {
+        least_totals(&sheet, kind, destination, width, column)?;
     }
     println!(rt; "site  weight   delay  jitter  charge    hops   width")?;
     let sites = sheet.sites();
-    let mut reached = 0u32;
     for site in 0..sites {
         print_row(rt, site, &columns)?;
-        if columns[0][usize::from(site)].is_some() {
-            reached = reached.saturating_add(1);
-        }
     }
+    let reached = columns[0].iter().flatten().count();
     println!(rt; "{reached} of {sites} sites have a way to site {destination} at width {width}")?;
     Ok(())
 }

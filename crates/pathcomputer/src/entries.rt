@@ -16,7 +16,8 @@ pub type ArcFigures = [u32; 7];
 // The arc that seven figures give in a network of so many sites, or which limit they do not keep.
 fn arc_within(sites: u8, figures: ArcFigures) -> Result<Arc, Fault>
     requires { sites ≤ 64 }
-    ensures { IfOk result (λ arc. (arc ≡ arc_from figures) × (arc_fits sites arc ≡ true)) }
+    ensures value { IfOk result (λ arc. arc ≡ arc_from figures) }
+    ensures fits { IfOk result (λ arc. arc_fits sites arc ≡ true) }
 {
     let [from, to, weight, delay, jitter, charge, capacity] = figures;
     if from >= u32::from(sites) || to >= u32::from(sites) {
@@ -60,11 +61,8 @@ impl Table {
         if self.arcs.len() >= 256 {
             return Err(Fault::TooManyArcs);
         }
-        let arc = arc_within(self.sites, figures)?;
-        match self.arcs.push(arc) {
-            Ok(()) => Ok(()),
-            Err(_) => Err(Fault::NoMemory),
-        }
+        self.arcs.push(arc_within(self.sites, figures)?)?;
+        Ok(())
     }
 }
 

@@ -9,14 +9,9 @@ mod table;
 mod usage;
 
 use commands::carry_out;
+use orders::ending::exit_code;
 use std::process::ExitCode;
 
 fn main(rt: HostRuntime) -> ExitCode {
-    match carry_out(&rt) {
-        Ok(()) => ExitCode::SUCCESS,
-        Err(failure) => {
-            let _ = eprintln!(rt; "{failure}");
-            ExitCode::FAILURE
-        }
-    }
+    exit_code(&rt, carry_out(&rt))
 }

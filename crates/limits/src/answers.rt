@@ -1,0 +1,27 @@
+// Refusals as this program shows them.
+use network::Refusal;
+use std::fmt;
+
+// The number of the check that failed, the bit of a sheet where it did, if there is one, and the reason.
+#[derive(Drop)]
+pub struct Refused<'a, R> {
+    pub refusal: &'a R,
+    pub bit: Option<u32>,
+}
+
+impl<'a, R: Refusal> Refused<'a, R> {
+    // A refusal with no bit.
+    pub fn new(refusal: &'a R) -> Refused<'a, R> {
+        Refused { refusal, bit: None }
+    }
+}
+
+impl<R: Refusal> fmt::Display for Refused<'_, R> {
+    fn fmt<W: fmt::Write>(&self, f: &mut fmt::Formatter<W>) -> fmt::Result {
+        write!(f, "refused {}", self.refusal.number())?;
+        if let Some(bit) = self.bit {
+            write!(f, " at bit {bit}")?;
+        }
+        write!(f, ", {}", self.refusal)
+    }
+}

@@ -4,7 +4,7 @@ use borrow.Author.Tests.{clash}
 use Rattle.std.specs.List.{slice_get}
 use Rattle.std.specs.Option.{option_map}
 use Rattle.std.proofs.lemmas.List.{length-take}
-use Rattle.std.proofs.lemmas.Bool.{and_from, and_parts, cases_lt, or_cases, not-true}
+use Rattle.std.proofs.lemmas.Bool.{and_from, and_parts, cases_Bool, cases_lt, or_cases, not-true}
 use Rattle.network.specs.ListsLemmas.{some_same}
 use Rattle.network.specs.Lists.{place_by_place}
 use Rattle.length.specs.Model.{Model, Lawful}
@@ -16,10 +16,6 @@ use Rattle.routes.proofs.Orders.{place_total, place_trans}
 -- a number below the next is below or is the last
 up_to : (j k : ℕ) → j < k + 1 → (j < k) ⊎ (j ≡ k)
 up_to j k h = ⊎_elim inl (λ ge. inr (omega arith)) (cases_lt j k)
-
-bool_cases : (b : Bool) → (b ≡ true) ⊎ (b ≡ false)
-bool_cases true = inl refl
-bool_cases false = inr refl
 
 pub slice_get-take : {A : Type 0} (n : ℕ) (xs : List A) (j : ℕ) → j < n → slice_get (take n xs) j ≡ slice_get xs j
 slice_get-take zero xs j h = absurd (omega arith)
@@ -106,7 +102,7 @@ module _ {L : Type 0} (m : Model L) (law : Lawful m) where
 
   pub before_total : (a b : Line L) → Sound m a → Sound m b → line_before m a b ≡ false → line_before m b a ≡ true
   before_total a b sa sb h =
-      go (bool_cases (m.no_longer a.projected b.projected)) (bool_cases (m.no_longer b.projected a.projected)) (place_total a.arcs b.arcs)
+      go (cases_Bool (m.no_longer a.projected b.projected)) (cases_Bool (m.no_longer b.projected a.projected)) (place_total a.arcs b.arcs)
     where
       go : (m.no_longer a.projected b.projected ≡ true) ⊎ (m.no_longer a.projected b.projected ≡ false)
           → (m.no_longer b.projected a.projected ≡ true) ⊎ (m.no_longer b.projected a.projected ≡ false)
@@ -118,7 +114,7 @@ module _ {L : Type 0} (m : Model L) (law : Lawful m) where
       go (inr p) (inr q) r = absurd (either _ _ p q (law.total a.projected b.projected sa.valid sb.valid))
 
   pub before_self : (a : Line L) → Sound m a → line_before m a a ≡ true
-  before_self a sa = ⊎_elim (λ t. t) (λ f. before_total a a sa sa f) (bool_cases (line_before m a a))
+  before_self a sa = ⊎_elim (λ t. t) (λ f. before_total a a sa sa f) (cases_Bool (line_before m a a))
 
   module _ (notebook : List (Line L)) (place : ℕ) (sound : AllSound m notebook (place + 1)) (line : Line L) (there : slice_get notebook place ≡ Some line) where
     is_line : (j : ℕ) (other : Line L) → j ≡ place → slice_get notebook j ≡ Some other → other ≡ line

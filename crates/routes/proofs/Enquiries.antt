@@ -1,9 +1,9 @@
 -- What an enquiry has once the checks before the work have passed, and its answer then.
 use Rattle.std.proofs.Common.{◌≡◌, ℕ, ◌<◌, ◌≤◌, min, Bool, true, false, cond, ◌||◌, eqb, ltb, leb, List, length, drop, Some, None, Ok, Err, Option, sym, refl, ap, ◌∙◌, subst, arith, ltb-false}
-use borrow.Author.Tests.{clash}
 use Rattle.std.proofs.lemmas.List.FromFn.{get_or-map-range_with_len, length-map-range_with_len}
 use Rattle.std.proofs.lemmas.List.{get_or_append_left, length-append}
-use Rattle.std.proofs.lemmas.Bool.{eqb-false, leb-false, le-ltb, lt-ltb, ltb-true}
+use Rattle.std.proofs.lemmas.Bool.Decides.{nat_tests}
+use Rattle.std.proofs.lemmas.Bool.{eqb-false, leb-false, or_parts}
 use Rattle.network.specs.Checks.{Told, answered, first_failed, refusal}
 use Rattle.network.specs.Net.{Net}
 use Rattle.network.specs.ListsLemmas.{none_some}
@@ -29,10 +29,6 @@ pub checks_passed : (o : Option Told) → Ok tt ≡ answered {A = Unit {0}} o tt
 checks_passed None q = refl
 checks_passed (Some r) q = cc
 
-neither : (a b : Bool) → (a || b) ≡ false → (a ≡ false) × (b ≡ false)
-neither true b h = absurd (clash (sym h))
-neither false b h = (refl, h)
-
 -- what stands once the checks have passed
 pub record Passed {K L : Type 0} (net : Net) (b : Brought K L) : Type 0 where
   pub asked : Asked net b.enquiry
@@ -56,13 +52,13 @@ early_passed model net b h =
     let c24 = passed_one (ltb e.wanted 1 || ltb 32 e.wanted) _ _ c23.1 in
     let c25 = passed_one (ltb (length b.list) e.wanted) _ _ c24.1 in
     let c26 = passed_one (shorter_than n t) _ _ c25.1 in
-    let sites = neither _ _ c20.0 in
-    let hops = neither _ _ c23.0 in
-    let wanted = neither _ _ c24.0 in
-    let t1 = neither _ (ltb (length t.by_hops) n) c26.0 in
-    let t2 = neither _ (ltb (length t.by_charge) n) t1.0 in
-    let t3 = neither _ (ltb (length t.by_jitter) n) t2.0 in
-    let t4 = neither (ltb (length t.by_kind) n) (ltb (length t.by_delay) n) t3.0 in
+    let sites = or_parts _ _ c20.0 in
+    let hops = or_parts _ _ c23.0 in
+    let wanted = or_parts _ _ c24.0 in
+    let t1 = or_parts _ (ltb (length t.by_hops) n) c26.0 in
+    let t2 = or_parts _ (ltb (length t.by_charge) n) t1.0 in
+    let t3 = or_parts _ (ltb (length t.by_jitter) n) t2.0 in
+    let t4 = or_parts (ltb (length t.by_kind) n) (ltb (length t.by_delay) n) t3.0 in
     let some_width = eqb-false e.width 0 c22.0 in
     record {
       asked = record {
@@ -86,33 +82,10 @@ early_passed model net b h =
     positive : (n : ℕ) → (n ≡ 0 → ⊥) → 0 < n
     positive n h = omega (arith, h)
 
-min_short : (a b n : ℕ) → ltb (min a b) n ≡ (ltb a n || ltb b n)
-min_short a b n = go (ltb a n) (ltb b n) refl refl
-  where
-    go : (x y : Bool) → ltb a n ≡ x → ltb b n ≡ y → ltb (min a b) n ≡ (x || y)
-    go true y p q = let h = ltb-true a n p in lt-ltb (min a b) n (omega arith)
-    go false true p q = let h = ltb-true b n q in lt-ltb (min a b) n (omega arith)
-    go false false p q = let h = ltb-false a n p in let k = ltb-false b n q in le-ltb (min a b) n (omega arith)
-
-regroup : (v w x y z : Bool) → (((v || w) || (x || y)) || z) ≡ (v || w || x || y || z)
-regroup true w x y z = refl
-regroup false true x y z = refl
-regroup false false true y z = refl
-regroup false false false y z = refl
-
 -- the shortest of the tables is too short where one is
 pub shortest_short : {L : Type 0} (t : Tables L) (n : ℕ)
     → ltb (min (min (min (length t.by_kind) (length t.by_delay)) (min (length t.by_jitter) (length t.by_charge))) (length t.by_hops)) n ≡ shorter_than n t
-shortest_short t n =
-    let v = length t.by_kind in
-    let w = length t.by_delay in
-    let x = length t.by_jitter in
-    let y = length t.by_charge in
-    let z = length t.by_hops in
-    min_short (min (min v w) (min x y)) z n
-    ∙ ap (λ b. b || ltb z n) (min_short (min v w) (min x y) n)
-    ∙ (λ k. ((min_short v w n k || min_short x y n k) || ltb z n))
-    ∙ regroup (ltb v n) (ltb w n) (ltb x n) (ltb y n) (ltb z n)
+shortest_short t n = grind (arith, nat_tests)
 
 -- the checks by sizes are those of the enquiry
 pub same_checks : {K L : Type 0} (model : K → Model L) (net : Net) (b : Brought K L) (sizes : Sizes) → sizes.sites ≡ net.sites → sizes.list ≡ length b.list

@@ -1,5 +1,5 @@
--- The hops of a row of arcs are its number of arcs, and an admissible partial route that has not arrived has fewer than 15.
-use Rattle.std.proofs.Common.{◌≡◌, ℕ, ◌<◌, ◌≤◌, min, true, false, eqb, List, [], ◌∷◌, length, is_some, Some, None, Option, refl, ap, ◌∙◌, subst, arith}
+-- An admissible partial route that has not arrived has fewer than 15.
+use Rattle.std.proofs.Common.{◌≡◌, ℕ, ◌<◌, ◌≤◌, true, false, eqb, List, [], ◌∷◌, length, is_some, Some, None, Option, refl, subst, arith}
 use borrow.Author.Tests.{clash}
 use Rattle.std.specs.Option.{option_map}
 use Rattle.std.proofs.lemmas.Bool.{and_parts, eqb-false, leb-true}
@@ -16,18 +16,10 @@ use Rattle.routes.specs.declared.enquiry.Enquiry.{Enquiry}
 use Rattle.routes.specs.Totals.{total}
 use Rattle.routes.specs.Routes.{end_of}
 use Rattle.routes.specs.Partial.{is_admissible, at_most, projected, projected_length}
+use Rattle.routes.proofs.Enumerate.{hops_total}
 use Rattle.routes.proofs.Parents.{end_below}
 
-pub hops_count : (net : Net) (p : List ℕ) → length p ≤ 4294967295 → total net Hops p ≡ length p
-hops_count net [] h = refl
-hops_count net (i ∷ is) h = let e = hops_count net is (omega arith) in ap (λ n. capped_sum 1 n) e ∙ omega arith
-
--- the hops of any row are its number of arcs, as far as sums go
-pub hops_least : (net : Net) (p : List ℕ) → min (length p) 4294967295 ≤ total net Hops p
-hops_least net [] = omega arith
-hops_least net (i ∷ is) = let h = hops_least net is in omega arith
-
-module _ {K L : Type 0} (model : K → Model L) (net : Net) (wf : WellFormed net) (e : Enquiry K) where
+module _ {K L : Type 0} (model : K → Model L) (net : Net) (e : Enquiry K) where
   -- the limit on hops, of an admissible row of arcs
   pub within_hops : (p : List ℕ) → is_admissible model net e p ≡ true → at_most (projected net e (standard Hops) p) e.limits.hops ≡ true
   within_hops p h =
@@ -37,6 +29,7 @@ module _ {K L : Type 0} (model : K → Model L) (net : Net) (wf : WellFormed net
       let c = and_parts (at_most (projected net e (standard Charge) p) e.limits.charge) _ j.1 in
       (and_parts (at_most (projected net e (standard Hops) p) e.limits.hops) true c.1).0
 
+module _ {K L : Type 0} (model : K → Model L) (net : Net) (wf : WellFormed net) (e : Enquiry K) where
   -- the least hops from a site that is not the destination are at least 1
   far : (u x : ℕ) → u < net.sites → eqb u e.destination ≡ false → least_total (standard Hops) net e.width e.destination u ≡ Some x → 1 ≤ x
   far u x hu away is =
@@ -46,7 +39,7 @@ module _ {K L : Type 0} (model : K → Model L) (net : Net) (wf : WellFormed net
     where
       go : (w : List ℕ) → follow net e.width u w ≡ Some e.destination → walk_length (standard Hops) net w ≡ x → 1 ≤ x
       go [] way long = absurd (eqb-false u e.destination away (some_same way))
-      go (i ∷ is) way long = let h = hops_least net (i ∷ is) in omega arith
+      go (i ∷ is) way long = let h = hops_total net (i ∷ is) in omega arith
 
   pub still_short : (p : List ℕ) (u : ℕ) → e.source < net.sites → e.limits.hops ≤ 15 → end_of net e p ≡ Some u → eqb u e.destination ≡ false
       → is_admissible model net e p ≡ true → length p < 15
@@ -57,12 +50,12 @@ module _ {K L : Type 0} (model : K → Model L) (net : Net) (wf : WellFormed net
       hu = end_below net e.width wf e.source p u source ends
 
       within : at_most (option_map (capped_sum (total net Hops p)) (least_total (standard Hops) net e.width e.destination u)) e.limits.hops ≡ true
-      within = subst (λ o. at_most (option_map (capped_sum (total net Hops p)) o) e.limits.hops ≡ true) refl (rw ends at (within_hops p admissible))
+      within = subst (λ o. at_most (option_map (capped_sum (total net Hops p)) o) e.limits.hops ≡ true) refl (rw ends at (within_hops model net e p admissible))
 
       go : (o : Option ℕ) → least_total (standard Hops) net e.width e.destination u ≡ o → length p < 15
       go None q = absurd (clash (rw q at within))
       go (Some x) q =
           let one = far u x hu away q in
           let top = leb-true _ _ (rw q at within) in
-          let many = hops_least net p in
+          let many = hops_total net p in
           omega arith

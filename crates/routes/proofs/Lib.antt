@@ -5,7 +5,6 @@ pub mod Orders
 pub mod Enumerate
 pub mod Steps
 pub mod Meets
-pub mod Follows
 pub mod Hops
 pub mod Places
 pub mod Lines

@@ -6,8 +6,7 @@ use Rattle.network.specs.Lists.{In, all_of}
 use Rattle.network.specs.Net.{Net, WellFormed, arc_at}
 use Rattle.network.specs.ListsLemmas.{none_some}
 use Rattle.length.specs.Model.{Model, Lawful}
-use Rattle.length.specs.declared.standard.StandardKind.{StandardKind}
-use Rattle.length.specs.declared.standard.StandardKind.TheVariants.{Delay, Jitter, Charge, Hops}
+use Rattle.length.specs.declared.standard.StandardKind.TheVariants.{Hops}
 use Rattle.length.specs.Standard.{standard}
 use Rattle.length.specs.Walks.{usable, walk_length}
 use Rattle.length.specs.Least.{least_total, IsLeast}
@@ -15,10 +14,11 @@ use Rattle.length.proofs.Walks.{walk_valid}
 use Rattle.length.proofs.Members.{in_kept, from_kept}
 use Rattle.length.proofs.Least.{true_T, walk_ok, least_of_all}
 use Rattle.routes.specs.declared.enquiry.Enquiry.{Enquiry}
-use Rattle.routes.specs.Totals.{Limit, limits_of, total}
+use Rattle.routes.specs.Totals.{total}
 use Rattle.routes.specs.Routes.{extended, end_of, is_path, is_complete, some_site, at_site, paths}
 use Rattle.routes.specs.Partial.{at_most, no_longer, is_partial, rest_from, projected, projected_length, is_admissible, admissible_of, partial_order, partial_routes, written}
 use Rattle.routes.specs.Listing.{LinesAreTakenInOrder}
+use Rattle.routes.proofs.Hops.{within_hops}
 use Rattle.routes.proofs.Parents.{some_there, some_is, follow_push, end_below, walk_in, mapped_some, parents_come_first}
 use Rattle.routes.proofs.Sorting.{Unique, Rising, from_sort, into_sort, sort_rising}
 use Rattle.routes.proofs.Once.{in_left, in_right, from_append, in_joined, from_joined, unique_kept, last_of}
@@ -106,19 +106,10 @@ module _ {K L : Type 0} (model : K → Model L) (net : Net) (e : Enquiry K) wher
       (in_joined (λ p. admissible_of model net e (extended net p)) (filter (λ p. not (is_complete net e p)) ps) p x
       (in_kept (λ p. not (is_complete net e p)) ps p i (not_from_false _ more)) (in_admissible_of (extended net p) x next a))
 
-  pub hops_within : (p : List ℕ) → is_admissible model net e p ≡ true → at_most (projected net e (standard Hops) p) e.limits.hops ≡ true
-  hops_within p h =
-      let within : StandardKind → ℕ → Bool = λ kind limit. at_most (projected net e (standard kind) p) limit in
-      let two = and_parts (is_some (projected_length model net e p)) (all_of (λ (l : Limit). within l.0 l.1) (limits_of e.limits)) h in
-      let d = and_parts (within Delay e.limits.delay) _ two.1 in
-      let j = and_parts (within Jitter e.limits.jitter) _ d.1 in
-      let c = and_parts (within Charge e.limits.charge) _ j.1 in
-      (and_parts (within Hops e.limits.hops) true c.1).0
-
   -- an admissible partial route has no more arcs than the hop limit
   pub few_hops : e.limits.hops ≤ 15 → (p : List ℕ) → is_admissible model net e p ≡ true → length p ≤ e.limits.hops
   few_hops few p h =
-      let a = at_most_some net e (projected net e (standard Hops) p) e.limits.hops (hops_within p h) in
+      let a = at_most_some net e (projected net e (standard Hops) p) e.limits.hops (within_hops model net e p h) in
       let b = projected_parts net e (standard Hops) p a.0 a.1 in
       few_of (length p) b.1 (total net Hops p) e.limits.hops (hops_total net p) few (subst (λ y. y ≤ e.limits.hops) b.4 a.2)
 

@@ -2,13 +2,12 @@
 use Rattle.std.proofs.Common.{◌≡◌, ℕ, ◌<◌, ◌≤◌, List, [], map, length, get_or, take, Some, None, Option, sym, ap, ◌∙◌, arith}
 use Rattle.std.specs.List.{slice_get}
 use Rattle.std.proofs.lemmas.List.{ext_get_or, get_or-map, length-map, length-take}
-use Rattle.network.specs.Lists.{sort}
 use Rattle.network.specs.Net.{Net}
 use Rattle.length.specs.Model.{Model}
 use Rattle.routes.specs.declared.enquiry.Enquiry.{Enquiry}
 use Rattle.routes.specs.declared.enquiry.RouteRow.{RouteRow}
 use Rattle.routes.specs.declared.line.Line.{Line}
-use Rattle.routes.specs.Routes.{feasible_routes, route_list, route_order, row_of}
+use Rattle.routes.specs.Routes.{route_list, row_of}
 use Rattle.routes.specs.Rows.{PlacesInside, no_row, row_at, row_on, rows_at}
 use Rattle.routes.specs.Work.{Ended}
 use Rattle.routes.proofs.Chosen.{slice_get-take}
@@ -34,7 +33,3 @@ module _ {K L : Type 0} (model : K → Model L) (net : Net) (e : Enquiry K) (fin
   -- the lines of the routes are among those used
   pub listed_inside : used ≤ length notebook → PlacesInside lines finished
   listed_inside room j h = omega (arith, ended.inside j h, ap length are, length-take used notebook)
-
--- no more routes are listed than are wanted
-pub listed_wanted : {K L : Type 0} (model : K → Model L) (net : Net) (e : Enquiry K) → length (route_list model net e) ≤ e.wanted
-listed_wanted model net e = omega (arith, length-take e.wanted (sort (route_order model net e) (feasible_routes net e)))

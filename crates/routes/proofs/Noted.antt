@@ -1,5 +1,5 @@
 -- A notebook in which a line is marked or one more is written still holds the lines of its partial routes.
-use Rattle.std.proofs.Common.{◌≡◌, ℕ, zero, suc, ◌+◌, ◌<◌, ◌≤◌, true, false, ◌⊎◌, List, [], ◌∷◌, ◌++◌, length, get_or, take, set, Some, sym, refl, ap, ◌∙◌, subst, inl, inr, ⊎_elim, le_of_suc-le-suc, not-suc-le-zero, arith}
+use Rattle.std.proofs.Common.{◌≡◌, ℕ, zero, suc, ◌+◌, ◌<◌, ◌≤◌, true, false, List, [], ◌∷◌, ◌++◌, length, get_or, take, set, Some, sym, refl, ap, ◌∙◌, subst, inl, inr, ⊎_elim, le_of_suc-le-suc, not-suc-le-zero, arith}
 use borrow.Author.Tests.{clash}
 use Rattle.std.specs.List.{slice_get}
 use Rattle.std.proofs.lemmas.List.{get_or_append_left, get_or_push, get_or-take, length-append, length_push, length-set, length-take-le}
@@ -12,6 +12,7 @@ use Rattle.routes.specs.declared.enquiry.Enquiry.{Enquiry}
 use Rattle.routes.specs.declared.line.Line.{Line}
 use Rattle.routes.specs.Lines.{line_of}
 use Rattle.routes.specs.Work.{Noted, OneLine, marked}
+use Rattle.routes.proofs.Once.{from_append, in_left, in_right}
 use Rattle.routes.proofs.Places.{in_get_or, not_before}
 use Rattle.routes.proofs.Sorting.{Unique}
 
@@ -26,20 +27,6 @@ nth_set_other (y ∷ ys) zero zero x ne = absurd (ne refl)
 nth_set_other (y ∷ ys) zero (suc j) x ne = refl
 nth_set_other (y ∷ ys) (suc i) zero x ne = refl
 nth_set_other (y ∷ ys) (suc i) (suc j) x ne = nth_set_other ys i j x (λ e. ne (ap suc e))
-
-pub in_left : {A : Type 0} (xs ys : List A) (x : A) → In x xs → In x (xs ++ ys)
-in_left [] ys x h = absurd h
-in_left (y ∷ more) ys x (inl e) = inl e
-in_left (y ∷ more) ys x (inr h) = inr (in_left more ys x h)
-
-pub in_right : {A : Type 0} (xs ys : List A) (x : A) → In x ys → In x (xs ++ ys)
-in_right [] ys x h = h
-in_right (y ∷ more) ys x h = inr (in_right more ys x h)
-
-pub in_either : {A : Type 0} (xs ys : List A) (x : A) → In x (xs ++ ys) → In x xs ⊎ In x ys
-in_either [] ys x h = inr h
-in_either (y ∷ more) ys x (inl e) = inl (inl e)
-in_either (y ∷ more) ys x (inr h) = ⊎_elim (λ a. inl (inr a)) (λ b. inr b) (in_either more ys x h)
 
 pub in_index : {A : Type 0} (xs : List A) (x d : A) → In x xs → (j : ℕ) × (j < length xs) × (get_or xs j d ≡ x)
 in_index [] x d h = absurd h
@@ -100,7 +87,7 @@ module _ {K L : Type 0} (model : K → Model L) (net : Net) (e : Enquiry K) wher
               not_taken = λ f i.
                   ⊎_elim (λ a. one.not_taken f a)
                   (λ b. ⊎_elim (λ q. ne (same_place routes j at [] once (omega (arith, noted.count)) (omega (arith, noted.count)) q)) (λ z. z) b)
-                  (in_either taken_routes (get_or routes at [] ∷ []) (get_or routes j []) i);
+                  (from_append taken_routes (get_or routes at [] ∷ []) (get_or routes j []) i);
             }
 
     -- one line more, of a partial route that is not taken
@@ -153,6 +140,6 @@ few_of (x ∷ xs) ys once sub =
     let rest : (z : _) → In z xs → In z (r.0 ++ r.1) = λ z i.
     ⊎_elim (λ a. in_left r.0 r.1 z a)
     (λ b. ⊎_elim (λ q. absurd (once.0 (subst (λ y. In y xs) q i))) (λ c. in_right r.0 r.1 z c) b)
-    (in_either r.0 (x ∷ r.1) z (subst (In z) r.2 (sub z (inr i)))) in
+    (from_append r.0 (x ∷ r.1) z (subst (In z) r.2 (sub z (inr i)))) in
     let fewer = few_of xs (r.0 ++ r.1) once.1 rest in
     omega (arith, ap length r.2, length-append r.0 (x ∷ r.1), length-append r.0 r.1)

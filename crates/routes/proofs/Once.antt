@@ -67,10 +67,10 @@ unique_joined f each apart (p ∷ ps) u =
 -- the last item of a list, and what stands before it
 pub push_parts : {A : Type 0} (p q : List A) (i j : A) → p ++ i ∷ [] ≡ q ++ j ∷ [] → (p ≡ q) × (i ≡ j)
 push_parts [] [] i j e = (refl, cc)
-push_parts [] (y ∷ []) i j e = absurd (let z : ◌≡◌ {A = ℕ} 0 1 = cc in omega arith)
-push_parts [] (y ∷ (z ∷ zs)) i j e = absurd (let z : ◌≡◌ {A = ℕ} 0 1 = cc in omega arith)
-push_parts (x ∷ []) [] i j e = absurd (let z : ◌≡◌ {A = ℕ} 0 1 = cc in omega arith)
-push_parts (x ∷ (w ∷ ws)) [] i j e = absurd (let z : ◌≡◌ {A = ℕ} 0 1 = cc in omega arith)
+push_parts [] (y ∷ []) i j e = absurd cc
+push_parts [] (y ∷ (z ∷ zs)) i j e = absurd cc
+push_parts (x ∷ []) [] i j e = absurd cc
+push_parts (x ∷ (w ∷ ws)) [] i j e = absurd cc
 push_parts (x ∷ p) (y ∷ q) i j e =
     let tails : p ++ i ∷ [] ≡ q ++ j ∷ [] = cc in
     let r = push_parts p q i j tails in

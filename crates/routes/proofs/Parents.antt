@@ -3,8 +3,9 @@
 use Rattle.std.proofs.Common.{◌≡◌, ℕ, ◌<◌, ◌≤◌, Bool, true, false, cond, not, ◌&&◌, T, eqb, List, [], ◌∷◌, ◌++◌, map, is_some, Some, None, Option, sym, refl, ap, ◌∙◌, subst, arith, leb→le}
 use borrow.Author.Tests.{clash}
 use Rattle.std.specs.Option.{option_map}
+use Rattle.std.proofs.lemmas.List.Folds.{list_all-append, list_any-append}
 use Rattle.std.proofs.lemmas.List.{map-append}
-use Rattle.std.proofs.lemmas.Bool.{leb-true, le-leb, eq-eqb, and_parts, and_from, or_parts, or_from, or_right, not-true, not_from_false}
+use Rattle.std.proofs.lemmas.Bool.{leb-true, le-leb, eq-eqb, and_parts, and_from, or_parts, or_right, not-true, not_from_false}
 use Rattle.network.specs.Lists.{all_of, among, distinct, place_by_place}
 use Rattle.network.specs.Net.{Net, WellFormed, arc_at}
 use Rattle.length.specs.Model.{Model, Lawful}
@@ -24,10 +25,7 @@ use Rattle.routes.specs.Partial.{at_most, no_longer, is_partial, rest_from, proj
 use Rattle.routes.specs.Listing.{ParentsComeFirst}
 
 pub among_front : (x : ℕ) (xs ys : List ℕ) → among x (xs ++ ys) ≡ false → among x xs ≡ false
-among_front x [] ys h = refl
-among_front x (y ∷ xs) ys h =
-    let p = or_parts (eqb x y) (among x (xs ++ ys)) h in
-    or_from (eqb x y) (among x xs) p.0 (among_front x xs ys p.1)
+among_front x xs ys h = (or_parts (among x xs) (among x ys) (sym (list_any-append (eqb x) xs ys) ∙ h)).0
 
 pub distinct_front : (xs ys : List ℕ) → distinct (xs ++ ys) ≡ true → distinct xs ≡ true
 distinct_front [] ys h = refl
@@ -36,10 +34,7 @@ distinct_front (x ∷ xs) ys h =
     and_from (not (among x xs)) (distinct xs) (not_from_false _ (among_front x xs ys (not-true _ p.0))) (distinct_front xs ys p.1)
 
 pub all_front : (t : ℕ → Bool) (xs ys : List ℕ) → all_of t (xs ++ ys) ≡ true → all_of t xs ≡ true
-all_front t [] ys h = refl
-all_front t (x ∷ xs) ys h =
-    let p = and_parts (t x) (all_of t (xs ++ ys)) h in
-    and_from (t x) (all_of t xs) p.0 (all_front t xs ys p.1)
+all_front t xs ys h = (and_parts (all_of t xs) (all_of t ys) (sym (list_all-append t xs ys) ∙ h)).0
 
 pub some_there : (o : Option ℕ) → some_site o ≡ true → (t : ℕ) × (o ≡ Some t)
 some_there None h = absurd (clash h)

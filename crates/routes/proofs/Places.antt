@@ -1,7 +1,5 @@
 -- What stands at a place of a list that rises, what stands before it, and lists with the same items.
-use Rattle.std.proofs.Common.{◌≡◌, ℕ, zero, suc, ◌<◌, Bool, true, false, cond, not, T, ◌⊎◌, List, [], ◌∷◌, ◌++◌, length, get_or, take, sym, refl, ap, ◌∙◌, subst, inl, inr, ⊎_elim, arith}
-use Rattle.std.specs.List.{flat_map}
-use Rattle.std.proofs.lemmas.List.{append_assoc}
+use Rattle.std.proofs.Common.{◌≡◌, ℕ, zero, suc, ◌<◌, Bool, true, false, cond, not, T, ◌⊎◌, List, [], ◌∷◌, length, get_or, take, sym, refl, ◌∙◌, subst, inl, inr, ⊎_elim, arith}
 use Rattle.network.specs.Lists.{In, insert, sort}
 use Rattle.routes.proofs.Sorting.{Unique, Rising, Ahead, in_all, from_take, from_insert, from_sort}
 
@@ -26,11 +24,6 @@ pub unique_take : {A : Type 0} (k : ℕ) (xs : List A) → Unique xs → Unique 
 unique_take zero xs u = tt
 unique_take (suc k) [] u = tt
 unique_take (suc k) (x ∷ xs) u = (λ i. u.0 (from_take k xs x i), unique_take k xs u.1)
-
-pub joined_append : {A B : Type 0} (f : A → List B) (xs ys : List A) → flat_map f (xs ++ ys) ≡ flat_map f xs ++ flat_map f ys
-joined_append f [] ys = refl
-joined_append f (x ∷ xs) ys =
-    ap (λ l. f x ++ l) (joined_append f xs ys) ∙ sym (append_assoc (f x) (flat_map f xs) (flat_map f ys))
 
 module _ {A : Type 0} (first : A → A → Bool) where
   unique_insert : (x : A) (xs : List A) → (In x xs → ⊥) → Unique xs → Unique (insert first x xs)

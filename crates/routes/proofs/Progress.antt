@@ -2,6 +2,7 @@
 use Rattle.std.proofs.Common.{◌≡◌, ℕ, zero, suc, ◌+◌, ◌<◌, ◌≤◌, Bool, true, false, cond, not, ◌&&◌, ◌||◌, T, List, [], ◌∷◌, ◌++◌, length, get_or, take, drop, Some, filter, Option, unwrap_or, sym, refl, ap, ◌∙◌, subst, inl, inr, add-zero, suc-add, zero-add, arith}
 use Rattle.std.specs.List.{range_with_len}
 use Rattle.std.proofs.lemmas.List.{append-nil, get_or-take, length-take, take-append-drop, take-take}
+use Rattle.std.proofs.lemmas.List.Elements.{filter-append}
 use Rattle.network.specs.ListsLemmas.{some_same}
 use Rattle.network.specs.Lists.{In, place_by_place}
 use Rattle.network.specs.Net.{Net, WellFormed}
@@ -14,7 +15,8 @@ use Rattle.routes.specs.Lines.{Asked, line_of, is_writable}
 use Rattle.routes.specs.Choice.{AllSound, AllTaken, FirstLine, Sound, line_before}
 use Rattle.routes.specs.Work.{Noted}
 use Rattle.routes.proofs.Lines.{Admitted, first_is_written, projects, written_admitted}
-use Rattle.routes.proofs.Noted.{in_index, in_left, in_right}
+use Rattle.routes.proofs.Noted.{in_index}
+use Rattle.routes.proofs.Once.{in_left, in_right}
 use Rattle.routes.proofs.Places.{in_get_or}
 use Rattle.routes.proofs.Sorting.{Unique}
 use Rattle.routes.proofs.Written.{first_of, more_than, none_left, written_append, written_more, written_once}
@@ -135,24 +137,6 @@ module _ {K L : Type 0} (model : K → Model L) (net : Net) (e : Enquiry K) wher
           let once = subst Unique whole (written_once model net e law wf asked.source_there asked.few_hops (k + 1)) in
           parts_apart (written model net e (take k (partial_routes model net e))) (admissible_of model net e (extended net p)) x once (written_so_far x old) new
 
-pub kept_push : {A : Type 0} (test : A → Bool) (xs : List A) (x : A) → filter test (xs ++ x ∷ []) ≡ filter test xs ++ cond (test x) (x ∷ []) []
-kept_push test [] x = refl
-kept_push test (y ∷ ys) x = go (test y) (kept_push test ys x)
-  where
-    go : (b : Bool) → filter test (ys ++ x ∷ []) ≡ filter test ys ++ cond (test x) (x ∷ []) []
-        → cond b (y ∷ filter test (ys ++ x ∷ [])) (filter test (ys ++ x ∷ [])) ≡ cond b (y ∷ filter test ys) (filter test ys) ++ cond (test x) (x ∷ []) []
-    go true h = ap (λ l. y ∷ l) h
-    go false h = h
-
-kept_append : {A : Type 0} (test : A → Bool) (xs ys : List A) → filter test (xs ++ ys) ≡ filter test xs ++ filter test ys
-kept_append test [] ys = refl
-kept_append test (x ∷ xs) ys = go (test x) (kept_append test xs ys)
-  where
-    go : (b : Bool) → filter test (xs ++ ys) ≡ filter test xs ++ filter test ys
-        → cond b (x ∷ filter test (xs ++ ys)) (filter test (xs ++ ys)) ≡ cond b (x ∷ filter test xs) (filter test xs) ++ filter test ys
-    go true h = ap (λ l. x ∷ l) h
-    go false h = h
-
 -- numbers counted in two parts
 pub counting_split : (a n j : ℕ) → range_with_len a (n + j) ≡ range_with_len a n ++ range_with_len (a + n) j
 counting_split a zero j = rw (zero-add, add-zero)
@@ -164,12 +148,12 @@ counting_split a (suc n) j =
 module _ {K L : Type 0} (model : K → Model L) (net : Net) (e : Enquiry K) where
   pub admissible_push : (rows : List (List ℕ)) (x : List ℕ) → admissible_of model net e (rows ++ x ∷ []) ≡ admissible_of model net e rows ++ cond (is_writable model net e x) (x ∷ []) []
   admissible_push rows x =
-      ap (filter (is_admissible model net e)) (kept_push (is_partial net e) rows x) ∙ go (is_partial net e x)
+      ap (filter (is_admissible model net e)) (filter-append (is_partial net e) rows (x ∷ [])) ∙ go (is_partial net e x)
     where
       go : (b : Bool) → filter (is_admissible model net e) (filter (is_partial net e) rows ++ cond b (x ∷ []) []) ≡ filter (is_admissible model net e) (filter (is_partial net e) rows) ++ cond (b && is_admissible model net e x) (x ∷ []) []
-      go true = kept_push (is_admissible model net e) (filter (is_partial net e) rows) x
+      go true = filter-append (is_admissible model net e) (filter (is_partial net e) rows) (x ∷ [])
       go false = ap (filter (is_admissible model net e)) (append-nil (filter (is_partial net e) rows)) ∙ sym (append-nil (filter (is_admissible model net e) (filter (is_partial net e) rows)))
 
   pub admissible_append : (xs ys : List (List ℕ)) → admissible_of model net e (xs ++ ys) ≡ admissible_of model net e xs ++ admissible_of model net e ys
   admissible_append xs ys =
-      ap (filter (is_admissible model net e)) (kept_append (is_partial net e) xs ys) ∙ kept_append (is_admissible model net e) (filter (is_partial net e) xs) (filter (is_partial net e) ys)
+      ap (filter (is_admissible model net e)) (filter-append (is_partial net e) xs ys) ∙ filter-append (is_admissible model net e) (filter (is_partial net e) xs) (filter (is_partial net e) ys)

@@ -1,32 +1,21 @@
 -- One arc more: what becomes of a partial route's end, sites, totals and limits.
-use Rattle.std.proofs.Common.{◌≡◌, ℕ, ◌<◌, Bool, true, false, cond, not, ◌&&◌, ◌||◌, eqb, ltb, leb, List, [], ◌∷◌, ◌++◌, Some, None, sym, refl, ap, ◌∙◌, arith}
-use Rattle.std.specs.Option.{option_map}
+use Rattle.std.proofs.Common.{◌≡◌, ℕ, Bool, true, false, cond, not, ◌&&◌, ◌||◌, eqb, List, [], ◌∷◌, ◌++◌, Some, None, refl, ap, ◌∙◌, arith}
+use Rattle.std.proofs.Math.Bool.{and-true, or-false}
+use Rattle.std.proofs.lemmas.List.Folds.{list_all-append, list_any-append}
 use Rattle.std.proofs.lemmas.List.{map-append}
 use Rattle.std.proofs.lemmas.Bool.Decides.{nat_tests}
-use Rattle.std.proofs.lemmas.Bool.{and_parts, eqb-true, ltb-true}
+use Rattle.std.proofs.lemmas.Bool.{and_parts, eqb-true}
 use Rattle.network.specs.ListsLemmas.{some_same}
 use Rattle.network.specs.Lists.{all_of, among, distinct}
-use Rattle.network.specs.Net.{Net, WellFormed, arc_at, arc_count}
-use Rattle.length.specs.Model.{Model, Lawful}
-use Rattle.length.specs.Walks.{usable, follow, sites_along, walk_length, arc_length}
-use Rattle.length.specs.Least.{least_total}
-use Rattle.length.proofs.Walks.{walk_push}
+use Rattle.network.specs.Net.{Net, arc_at}
+use Rattle.length.specs.Walks.{usable, follow, sites_along}
 use Rattle.routes.specs.declared.enquiry.Enquiry.{Enquiry}
 use Rattle.routes.specs.Routes.{end_of, is_path, some_site}
-use Rattle.routes.specs.Partial.{is_partial, projected, rest_from}
-use Rattle.routes.proofs.Parents.{test, cut, walk_in}
-
-pub or_assoc : (a b c : Bool) → ((a || b) || c) ≡ (a || (b || c))
-or_assoc true b c = refl
-or_assoc false b c = refl
+use Rattle.routes.specs.Partial.{is_partial}
+use Rattle.routes.proofs.Parents.{test, cut}
 
 pub among_push : (x : ℕ) (xs : List ℕ) (y : ℕ) → among x (xs ++ y ∷ []) ≡ (among x xs || eqb x y)
-among_push x [] y = last (eqb x y)
-  where
-    last : (b : Bool) → (b || false) ≡ b
-    last true = refl
-    last false = refl
-among_push x (z ∷ zs) y = ap (λ b. eqb x z || b) (among_push x zs y) ∙ sym (or_assoc (eqb x z) (among x zs) (eqb x y))
+among_push x xs y = list_any-append (eqb x) xs (y ∷ []) ∙ ap (λ b. among x xs || b) (or-false (eqb x y))
 
 pub eqb_swap : (a b : ℕ) → eqb a b ≡ eqb b a
 eqb_swap a b = grind (arith, nat_tests)
@@ -42,17 +31,8 @@ distinct_push [] y = refl
 distinct_push (x ∷ xs) y =
     simp (among_push x xs y, distinct_push xs y, eqb_swap y x) (shuffle (among x xs) (eqb x y) (distinct xs) (among y xs))
 
-and_assoc : (a b c : Bool) → ((a && b) && c) ≡ (a && (b && c))
-and_assoc true b c = refl
-and_assoc false b c = refl
-
-pub and_true : (b : Bool) → (b && true) ≡ b
-and_true true = refl
-and_true false = refl
-
 pub all_push : {A : Type 0} (t : A → Bool) (xs : List A) (y : A) → all_of t (xs ++ y ∷ []) ≡ (all_of t xs && t y)
-all_push t [] y = and_true (t y)
-all_push t (x ∷ xs) y = ap (λ b. t x && b) (all_push t xs y) ∙ sym (and_assoc (t x) (all_of t xs) (t y))
+all_push t xs y = list_all-append t xs (y ∷ []) ∙ ap (λ b. all_of t xs && b) (and-true (t y))
 
 pub sites_push : (net : Net) (s : ℕ) (p : List ℕ) (i : ℕ) → sites_along net s (p ++ i ∷ []) ≡ sites_along net s p ++ (arc_at net i).to ∷ []
 sites_push net s p i = ap (λ l. s ∷ l) (map-append (λ j. (arc_at net j).to) p (i ∷ []))
@@ -97,15 +77,5 @@ module _ {K : Type 0} (net : Net) (e : Enquiry K) (p : List ℕ) (i u : ℕ) (en
       last true q =
           let begins = eqb-true (arc_at net i).from u (and_parts (usable net e.width i) (eqb (arc_at net i).from u) q).1 in
           ap (λ b. not (among (arc_at net i).to (sites_along net e.source p)) && not b) (ap (λ x. eqb x e.destination) begins ∙ away)
-          ∙ and_true (not (among (arc_at net i).to (sites_along net e.source p)))
+          ∙ and-true (not (among (arc_at net i).to (sites_along net e.source p)))
       last false q = refl
-
-  -- the projected length, where the arc can follow
-  pub projected_step : {M : Type 0} (m : Model M) → Lawful m → WellFormed net → test net e.width u i ≡ true
-      → projected net e m (p ++ i ∷ []) ≡ option_map (m.join (m.join (walk_length m net p) (arc_length m net i))) (least_total m net e.width e.destination (arc_at net i).to)
-  projected_step m law wf t =
-      let at : end_of net e (p ++ i ∷ []) ≡ Some (arc_at net i).to = end_step ∙ ap (λ b. cond b (Some (arc_at net i).to) None) t in
-      let there_i : i < arc_count net = ltb-true i (arc_count net) (and_parts (ltb i (arc_count net)) (leb e.width (arc_at net i).capacity) (and_parts (usable net e.width i) (eqb (arc_at net i).from u) t).0).0 in
-      let long = walk_push m law net wf p i (walk_in net e.width m law wf e.source p u ends) there_i in
-      ap (λ o. option_map (m.join (walk_length m net (p ++ i ∷ []))) (rest_from net e m o)) at
-      ∙ ap (λ x. option_map (m.join x) (least_total m net e.width e.destination (arc_at net i).to)) long

@@ -1,6 +1,7 @@
 -- The line that the code makes of a partial route is its line: that of the empty one, and that of one arc longer.
 use Rattle.std.proofs.Common.{◌≡◌, ℕ, ◌<◌, Bool, true, false, cond, not, ◌&&◌, eqb, ltb, leb, List, [], ◌∷◌, ◌++◌, length, get_or, Some, None, Option, unwrap_or, sym, refl, ap, ◌∙◌}
 use Rattle.std.specs.Option.{option_map}
+use Rattle.std.proofs.Math.Bool.{and-true}
 use Rattle.std.proofs.lemmas.Bool.{and_parts, lt-ltb, ltb-true}
 use Rattle.network.specs.declared.arc.Arc.{Arc}
 use Rattle.network.specs.Lists.{all_of, among}
@@ -22,10 +23,10 @@ use Rattle.routes.specs.Routes.{end_of}
 use Rattle.routes.specs.Partial.{is_admissible, at_most, is_partial, projected, rest_from}
 use Rattle.routes.specs.Lines.{HoldsRests, RestsHold, following_arc, line_of, line_within, next_line, stretched, totals_of, totals_with, totals_within}
 use Rattle.routes.proofs.Parents.{test, walk_in}
-use Rattle.routes.proofs.Steps.{and_true, can_follow, end_step, partial_step}
+use Rattle.routes.proofs.Steps.{can_follow, end_step, partial_step}
 
 four : (a b c d a' b' c' d' : Bool) → a ≡ a' → b ≡ b' → c ≡ c' → d ≡ d' → (a && (b && (c && (d && true)))) ≡ (a' && (b' && (c' && d')))
-four a b c d a' b' c' d' p₁ p₂ p₃ p₄ = rw (p₁, p₂, p₃, p₄, and_true d')
+four a b c d a' b' c' d' p₁ p₂ p₃ p₄ = rw (p₁, p₂, p₃, p₄, and-true d')
 
 module _ {K L : Type 0} (model : K → Model L) (net : Net) (e : Enquiry K) (rests : LentTables L) (hold : RestsHold model net e rests) where
   module _ (arcs : List ℕ) (u : ℕ) (ends : end_of net e arcs ≡ Some u) (below : u < net.sites) where

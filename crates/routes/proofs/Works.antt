@@ -3,6 +3,7 @@ use Rattle.std.proofs.Common.{◌≡◌, ℕ, ◌+◌, ◌-◌, ◌<◌, ◌≤�
 use Rattle.std.specs.List.{range_with_len, slice_get}
 use Rattle.std.proofs.lemmas.List.FromFn.{map-range_with_len_more}
 use Rattle.std.proofs.lemmas.List.{append_assoc, append-nil, get_or_append_left, get_or_push, length-append, length_push, length-set, length-take-le, map-append, take_more}
+use Rattle.std.proofs.lemmas.List.Elements.{filter_more}
 use Rattle.std.proofs.lemmas.Bool.{and_from, and_parts, cases_eq, eqb-true, eqb-false}
 use Rattle.network.specs.ListsLemmas.{some_same, none_some}
 use Rattle.network.specs.Lists.{In}
@@ -20,9 +21,9 @@ use Rattle.routes.proofs.Lines.{Admitted, at_place, in_admissible_of}
 use Rattle.routes.proofs.Noted.{few_of, noted_mark, noted_write}
 use Rattle.routes.proofs.Parents.{some_there}
 use Rattle.routes.proofs.Places.{unique_take}
-use Rattle.routes.proofs.Progress.{admissible_append, admissible_push, counting_split, kept_push, new_line, next_is, none_more, written_so_far}
+use Rattle.routes.proofs.Progress.{admissible_append, admissible_push, counting_split, new_line, next_is, none_more, written_so_far}
 use Rattle.routes.proofs.Taken.{taken_lists_the_routes}
-use Rattle.routes.proofs.Written.{complete_of, lines_more, lines_so_far, taken_end, partial_once, taken_stop, written_empty, written_more, written_once}
+use Rattle.routes.proofs.Written.{complete_of, lines_more, taken_end, partial_once, taken_stop, written_empty, written_more, written_once}
 
 -- a line written keeps the length
 after_long : {L : Type 0} (o : Option (Line L)) (used lines : ℕ) (notebook : List (Line L)) → length (notebook_after o used lines notebook) ≡ length notebook
@@ -68,7 +69,7 @@ module _ {K L : Type 0} (model : K → Model L) (net : Net) (e : Enquiry K) wher
 
   -- the complete ones among those taken, one more
   done_more : (k : ℕ) → k < length PR → Done (k + 1) ≡ Done k ++ cond (is_complete net e (get_or PR k [])) (get_or PR k [] ∷ []) []
-  done_more k h = ap (filter (is_complete net e)) (next_taken k h) ∙ kept_push (is_complete net e) (take k PR) (get_or PR k [])
+  done_more k h = filter_more (is_complete net e) PR k [] h
 
   done_same : (k : ℕ) → k < length PR → is_complete net e (get_or PR k []) ≡ false → Done (k + 1) ≡ Done k
   done_same k h away = done_more k h ∙ ap (λ b. Done k ++ cond b (get_or PR k [] ∷ []) []) away ∙ append-nil (Done k)
@@ -127,9 +128,6 @@ module _ {K L : Type 0} (model : K → Model L) (net : Net) (e : Enquiry K) wher
         none_noted : Noted model net e [] [] notebook 0
         none_noted = record { count = refl; room = omega arith; each = λ j h. absurd (omega arith) }
 
-        Start : Bool → Option (Line L)
-        Start b = cond b (Some (line_of model net e false [])) None
-
         one : (c : Bool) → eqb 0 lines ≡ c → Some used ≡ cond c None (Some (0 + 1)) → after ≡ cond c notebook (set notebook 0 (line_of model net e false [])) → Noted model net e ([] ∷ []) [] after used
         one true q u a = absurd (none_some (sym u))
         one false q u a =
@@ -141,22 +139,6 @@ module _ {K L : Type 0} (model : K → Model L) (net : Net) (e : Enquiry K) wher
             → after ≡ notebook_after (cond b (Some (line_of model net e false [])) None) 0 lines notebook → Noted model net e (cond b ([] ∷ []) []) [] after used
         begin true u a = one (eqb 0 lines) refl u a
         begin false u a = subst (λ n. Noted model net e [] [] after n) (sym (some_same u)) (subst (λ b. Noted model net e [] [] b 0) (sym a) none_noted)
-
-    -- the start fails only where a line is wanted and there is none
-    pub no_start : (lines : ℕ) → None ≡ used_after (cond (is_writable model net e []) (Some (line_of model net e false [])) None) 0 lines → lines < line_count model net e
-    no_start lines u = go (is_writable model net e []) refl u
-      where
-        one : (c : Bool) → eqb 0 lines ≡ c → is_writable model net e [] ≡ true → None ≡ cond c None (Some (0 + 1)) → lines < line_count model net e
-        one false q t u = absurd (none_some u)
-        one true q t u =
-            let zero_lines = eqb-true 0 lines q in
-            let first : length (W 0) ≡ 1 = ap length (written_empty model net e ∙ admissible_push model net e [] [] ∙ ap (λ b. cond b ([] ∷ []) []) t) in
-            let all = lines_so_far model net e 0 asked.some_wanted in
-            omega arith
-
-        go : (b : Bool) → is_writable model net e [] ≡ b → None ≡ used_after (cond b (Some (line_of model net e false [])) None) 0 lines → lines < line_count model net e
-        go true q u = one (eqb 0 lines) refl q u
-        go false q u = absurd (none_some u)
 
     -- the end, with what was taken
     pub finish : (lines k used : ℕ) (notebook : List (Line L)) (finished : List ℕ) → Noted model net e (W k) (take k PR) notebook used → Completed model net e (W k) (Done k) finished
@@ -233,9 +215,6 @@ module _ {K L : Type 0} (model : K → Model L) (net : Net) (e : Enquiry K) wher
 
       inside_written : at < length (W k)
       inside_written = omega (arith, f.inside, work.noted.count)
-
-      pub found_few : length finished < 32
-      found_few = omega (arith, work.wanting, asked.few_wanted)
 
       -- it has arrived
       done_now : is_complete net e (get_or PR k []) ≡ true → Completed model net e (W (k + 1)) (Done (k + 1)) (finished ++ at ∷ [])

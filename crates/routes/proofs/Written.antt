@@ -4,6 +4,7 @@ use Rattle.std.specs.List.{range_with_len, flat_map}
 use Rattle.std.proofs.lemmas.List.Elements.{filter-append}
 use Rattle.std.proofs.lemmas.List.{append-nil, append_assoc, take_all, take-take, take_more, take-append-drop}
 use Rattle.std.proofs.lemmas.Bool.{cases_lt}
+use Rattle.std.proofs.lemmas.Grind.{flat_map-append}
 use Rattle.network.specs.Lists.{In}
 use Rattle.network.specs.Net.{Net, WellFormed, arc_count}
 use Rattle.length.specs.Model.{Model, Lawful}
@@ -15,7 +16,7 @@ use Rattle.routes.specs.Partial.{is_partial, is_admissible, admissible_of, parti
 use Rattle.routes.proofs.Sorting.{Unique}
 use Rattle.routes.proofs.Once.{from_joined, unique_append, unique_kept, unique_joined}
 use Rattle.routes.proofs.Enumerate.{extended_unique, extended_apart}
-use Rattle.routes.proofs.Places.{joined_append, unique_take, not_before, up_to}
+use Rattle.routes.proofs.Places.{unique_take, not_before, up_to}
 use Rattle.routes.proofs.Lines.{was_in_rows, partial_unique, partial_rising, written_partial, first_is_written}
 
 at_most_sum : (n a b : ℕ) → n ≡ a + b → a ≤ n
@@ -36,7 +37,7 @@ module _ {K L : Type 0} (model : K → Model L) (net : Net) (e : Enquiry K) wher
   written_push ps p =
       let start : List (List ℕ) = admissible_of model net e ([] ∷ []) in
       ap (λ l. start ++ flat_map next l) (filter-append still ps (p ∷ []))
-      ∙ (ap (λ l. start ++ l) (joined_append next (filter still ps) (filter still (p ∷ [])) ∙ ap (λ l. flat_map next (filter still ps) ++ l) (one (is_complete net e p)))
+      ∙ (ap (λ l. start ++ l) (flat_map-append next (filter still ps) (filter still (p ∷ [])) ∙ ap (λ l. flat_map next (filter still ps) ++ l) (one (is_complete net e p)))
       ∙ sym (append_assoc start (flat_map next (filter still ps)) (cond (is_complete net e p) [] (next p))))
     where
       next : List ℕ → List (List ℕ)
@@ -144,7 +145,7 @@ module _ {K L : Type 0} (model : K → Model L) (net : Net) (e : Enquiry K) wher
       ≡ written model net e ps ++ flat_map (λ q. admissible_of model net e (extended net q)) (filter (λ q. not (is_complete net e q)) qs)
   written_append ps qs =
       ap (λ l. start ++ flat_map next l) (filter-append still ps qs)
-      ∙ (ap (λ l. start ++ l) (joined_append next (filter still ps) (filter still qs))
+      ∙ (ap (λ l. start ++ l) (flat_map-append next (filter still ps) (filter still qs))
       ∙ sym (append_assoc start (flat_map next (filter still ps)) (flat_map next (filter still qs))))
     where
       start : List (List ℕ)

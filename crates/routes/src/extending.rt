@@ -43,9 +43,10 @@ impl<K: Kind> Search<'_, '_, K> {
         requires { there (copy_meaning self.now.network.now) line.now.arcs ≡ true }
         ensures { result ≡ following_arc (copy_meaning self.now.network.now) self.now.enquiry.now line.now number }
     {
-        let arc = self.network.arc(u32::from(number)).filter(|arc| {
-            u32::from(arc.capacity) >= self.enquiry.width && arc.from == line.end
-        })?;
+        let arc = self.network.arc(u32::from(number))?;
+        if u32::from(arc.capacity) < self.enquiry.width || arc.from != line.end {
+            return None;
+        }
         (!self.meets(line, arc.to)).then_some(arc)
     }
 

@@ -38,23 +38,14 @@ returns-in_err-early_checks g c =
       same_hops = refl;
     })
 
-pub fill_tables-requires : goal.fill_tables-requires
-fill_tables-requires g c =
+pub fill_tables-requires-clause-asked : goal.fill_tables-requires-clause-asked
+fill_tables-requires-clause-asked g c =
     let model = g.K.Kind.model in
     let net = copy_meaning c.of-copy.result in
     let b = brought c.args.enquiry.now c.args.tables.now c.args.list.now (length c.args.notebook.now) in
     let sizes : Sizes = record { sites = c.from.result; list = length c.args.list.now; tables = c.shortest.result } in
     let none = sym (same_checks model net b sizes (c.from.ensures ∙ c.sites.ensures) refl c.shortest.ensures) ∙ checks_passed (first_failed (size_checks b.enquiry sizes)) c.in_ok-early_checks.ensures in
-    let passed = early_passed model net b none in
-    record {
-      asked = passed.asked;
-      width = passed.width;
-      length = passed.by_kind;
-      delay = passed.by_delay;
-      jitter = passed.by_jitter;
-      charge = passed.by_charge;
-      hops = passed.by_hops;
-    }
+    (early_passed model net b none).asked
 
 pub invariant_of-search : goal.invariant_of-search
 invariant_of-search g c =
@@ -76,15 +67,6 @@ invariant_of-search g c =
         by_hops = filled_holds (standard Hops) net e.width e.destination b.tables.by_hops _ filled.hops;
       };
     }
-
-pub find_routes-requires : goal.find_routes-requires
-find_routes-requires g c =
-    let model = g.K.Kind.model in
-    let net = copy_meaning c.of-copy.result in
-    let b = brought c.args.enquiry.now c.args.tables.now c.args.list.now (length c.args.notebook.now) in
-    let sizes : Sizes = record { sites = c.from.result; list = length c.args.list.now; tables = c.shortest.result } in
-    let none = sym (same_checks model net b sizes (c.from.ensures ∙ c.sites.ensures) refl c.shortest.ensures) ∙ checks_passed (first_failed (size_checks b.enquiry sizes)) c.in_ok-early_checks.ensures in
-    (early_passed model net b none).list
 
 pub returns : goal.returns
 returns g c =

@@ -1,14 +1,11 @@
 -- Each turn writes one row more, and after the last all are written.
-use Rattle.std.proofs.Common.{◌≡◌, ◌<◌, length, get_or, refl, sym, ◌∙◌, arith, take_all}
+use Rattle.std.proofs.Common.{◌≡◌, ◌<◌, length, get_or, refl, sym, ◌∙◌, arith}
 use Rattle.std.proofs.lemmas.List.{get_or-map, length-map}
 use Rattle.std.proofs.lemmas.Option.{slice_get_read}
 use Rattle.network.specs.ListsLemmas.{enter_at}
 use Rattle.routes.specs.Rows.{no_row, row_at, rows_at}
 use Rattle.routes.proofs.Listed.{row_there}
 use Rattle.routes.proofs.listing.list_rows.Goals as goal
-
-pub bounds-notebook-place : goal.bounds-notebook-place
-bounds-notebook-place g c = c.requires.inside c.loop-row.row c.loop-row-test.true
 
 pub loop-row-preserved : goal.loop-row-preserved
 loop-row-preserved g c =
@@ -24,13 +21,3 @@ loop-row-preserved g c =
     let inside : i < length rows = omega (arith, c.loop-row-test.true) in
     let room : i < length c.args.list.now = omega (arith, c.requires.room, c.loop-row-test.true) in
     enter_at rows c.args.list.now c.loop-row.list i i c.row_of.result no_row c.loop-row.invariant refl inside room is
-
-pub returns : goal.returns
-returns g c =
-    let notebook = c.args.notebook.now in
-    let places = c.args.places.now in
-    let rows = rows_at notebook places in
-    let long = length-map places (row_at notebook) in
-    let last : c.loop-row.row ≡ length places = omega arith in
-    let whole = take_all (length places) rows (omega arith) in
-    rw whole at (rw last at c.loop-row.invariant)

@@ -8,21 +8,9 @@ use Rattle.network.specs.Fits.{fits_formed}
 use Rattle.routes.specs.Work.{WorkDone, notebook_after, used_after}
 use Rattle.routes.proofs.Chosen.{chosen_used, sound_used}
 use Rattle.routes.proofs.Progress.{all_sound}
-use Rattle.routes.proofs.Works.{all_wanted, goes_on, no_start, none_left_over, step_arrived, step_more, step_room, too_few, widened, widens, wider, work_starts}
+use Rattle.routes.proofs.Works.{all_wanted, goes_on, none_left_over, step_arrived, step_more, step_room, too_few, widened, widens, wider, work_starts}
 use Rattle.routes.proofs.taking.take_lines.Goals as goal
 use Rattle.routes.proofs.taking.take_lines.Goals.{in-Some+then-from-enquiry+then-len-enquiry, in_default}
-
-pub returns-in_err-note : goal.returns-in_err-note
-returns-in_err-note g c =
-    let search = c.args.search.now in
-    let net = copy_meaning search.network.now in
-    let e = search.enquiry.now in
-    let model = g.K.Kind.model in
-    let law = g.met.K.Kind.lawful e.kind in
-    let wf = fits_formed net search.network.now.limits in
-    let lines = length c.args.notebook.now.lines.now in
-    subst (λ (o : Option (ArrayVec ℕ)). WorkDone model net e o c.note.new.self lines) (sym c.from_residual.ensures)
-    (no_start model net e law wf search.asked lines (c.in_err-note.ensures.used ∙ (λ k. used_after (c.start.ensures k) (c.requires k) lines)))
 
 pub taking-init : goal.taking-init
 taking-init g c =

@@ -22,7 +22,7 @@ use Rattle.ledger.specs.Tally.{Entry, Tally, free_net, free_on, hold_next, hold_
 use Rattle.ledger.specs.Shown.{free_less, shown_at, shown_count}
 use Rattle.ledger.proofs.Selling.{use_at}
 use Rattle.ledger.proofs.Standing.{entry_from, entry_says, hold_entries}
-use Rattle.ledger.proofs.Tests.{all_at, all_put, all_so, any_same, any_some}
+use Rattle.ledger.proofs.Tests.{all_put, all_so, any_same}
 use Rattle.ledger.proofs.Marks.{same_marks, tally_of}
 use Rattle.ledger.proofs.Turns.{Stand}
 
@@ -79,9 +79,6 @@ none_among test a (x ∷ xs) h m = go (eqb a x) refl m (none_among test a xs (or
     go : (b : Bool) → eqb a x ≡ b → (b || among a xs) ≡ true → (among a xs ≡ true → test a ≡ false) → test a ≡ false
     go true e m ih = ap test (eqb-true a x e) ∙ (or_parts (test x) (any_of test xs) h).0
     go false e m ih = ih m
-
-pub among_at : (xs : List ℕ) (k : ℕ) → k < length xs → among (get_or xs k 0) xs ≡ true
-among_at xs k l = any_some (eqb (get_or xs k 0)) xs 0 k l (eq-eqb (get_or xs k 0) (get_or xs k 0) refl)
 
 among_map : (f : ℕ → ℕ) (a : ℕ) (xs : List ℕ) → among a xs ≡ true → among (f a) (map f xs) ≡ true
 among_map f a [] m = clash (ap (λ b. cond b 1 0) m)
@@ -146,14 +143,6 @@ module _ (net : Net) (t : Tally) (width : ℕ) (arcs : List ℕ) where
           let there : None ≡ Some arcs = none ∙ ap (λ b. cond b (Some arcs) None) (and_from _ _ (le-leb (length arcs) 15 few) below) in
           cc
       go false e = refl
-
-  -- no arc has a capacity above 255
-  pub wide : WellFormed net → 0 < length arcs → all_of (λ i. ltb i (arc_count net)) arcs ≡ true → 256 ≤ width → any_of (λ i. ltb (free_on net t i) width) arcs ≡ true
-  wide wf some there big =
-      let i = get_or arcs 0 0 in
-      let l : get_or arcs 0 0 < arc_count net = ltb-true (get_or arcs 0 0) (arc_count net) (all_at (λ i. ltb i (arc_count net)) arcs 0 0 some there) in
-      any_some (λ i. ltb (free_on net t i) width) arcs 0 0 some
-      (lt-ltb (free_on net t (get_or arcs 0 0)) width (omega (arith, free_less (t.marked (get_or arcs 0 0)) (arc_at net (get_or arcs 0 0)).capacity (taken_on t (get_or arcs 0 0)), (All-get_or (ArcFits net.sites) net.arcs (get_or arcs 0 0) no_arc l wf.arcs_fit).capacity_fits)))
 
   abbrev last_checks : List Check
   last_checks = (leb row_count (length t.entries), refusal 36) ∷ (leb last_ticket t.given, refusal 37) ∷ []

@@ -2,12 +2,11 @@
 use Rattle.std.proofs.Common.{◌≡◌, ℕ, zero, suc, ◌+◌, ◌<◌, Bool, true, false, not, ◌||◌, eqb, List, [], ◌∷◌, ◌++◌, length, get_or, take, set, sym, refl, ap, ◌∙◌, subst, ⊎_elim, arith}
 use mathlib.Core.Bool.{or-false}
 use Rattle.std.proofs.lemmas.List.{get_or-set_same, get_or-set_other, length-set, take_more}
-use Rattle.std.proofs.lemmas.List.Folds.{list_any-append}
+use Rattle.std.proofs.lemmas.List.Folds.{list_any-append, list_any_at}
 use Rattle.std.proofs.lemmas.Bool.{and_parts, both_ways, cases_eq, eq-eqb, ne_eqb, not-true, or_from, or_parts}
 use Rattle.network.specs.Lists.{among, any_of, distinct}
 use Rattle.ledger.specs.declared.arcs.ArcUse.{ArcUse}
 use Rattle.ledger.specs.Rows.{no_use}
-use Rattle.ledger.proofs.Tests.{any_some}
 
 pub any_push : {A : Type 0} (test : A → Bool) (xs : List A) (y : A) → any_of test (xs ++ (y ∷ [])) ≡ (any_of test xs || test y)
 any_push test xs y = list_any-append test xs (y ∷ []) ∙ ap (λ b. any_of test xs || b) (or-false (test y))
@@ -22,10 +21,10 @@ apart (x ∷ xs) (suc k) l h =
   where
     other : among x xs ≡ false → eqb (get_or xs k 0) x ≡ false
     other n =
-        ne_eqb (get_or xs k 0) x (λ e. both_ways (among x xs) n (any_some (eqb x) xs 0 k (omega arith) (eq-eqb x (get_or xs k 0) (sym e))))
+        ne_eqb (get_or xs k 0) x (λ e. both_ways (among x xs) n (list_any_at (eqb x) xs k 0 (omega arith) (eq-eqb x (get_or xs k 0) (sym e))))
 
 pub among_at : (xs : List ℕ) (k a : ℕ) → a ≡ get_or xs k 0 → k < length xs → among a xs ≡ true
-among_at xs k a is l = any_some (eqb a) xs 0 k l (eq-eqb a (get_or xs k 0) is)
+among_at xs k a is l = list_any_at (eqb a) xs k 0 l (eq-eqb a (get_or xs k 0) is)
 
 abbrev pub use_at : List ArcUse → ℕ → ArcUse
 use_at arcs arc = get_or arcs arc no_use
@@ -36,9 +35,6 @@ pub record Changed (change : ℕ → ℕ → Type 0) (route : List ℕ) (start n
   pub others : (arc : ℕ) → among arc route ≡ false → use_at now arc ≡ use_at start arc
   pub closed : (arc : ℕ) → (use_at now arc).closed ≡ (use_at start arc).closed
   pub long : length now ≡ length start
-
-pub changed_none : (change : ℕ → ℕ → Type 0) (start : List ArcUse) → Changed change [] start start
-changed_none change start = record { changed = λ arc m. absurd (both_ways _ refl m); others = λ arc n. refl; closed = λ arc. refl; long = refl }
 
 module _ (change : ℕ → ℕ → Type 0) (route : List ℕ) (start now : List ArcUse) (k a : ℕ) (inv : Changed change (take k route) start now) (l : k < length route) (is : a ≡ get_or route k 0) (once : distinct route ≡ true) where
   -- before its turn, an arc is as it was

@@ -1,9 +1,9 @@
 -- Lemmas on the marks of visited sites: the sites met so far, and that a site stands twice where it is marked already.
-use Rattle.std.proofs.Common.{◌≡◌, ℕ, ◌+◌, ◌<◌, ◌≤◌, Bool, true, false, cond, not, ◌&&◌, ◌||◌, eqb, List, [], ◌∷◌, ◌++◌, map, length, get_or, take, drop, set, replicate, sym, refl, ap, ◌∙◌, subst, ⊎_elim, arith, lit<}
+use Rattle.std.proofs.Common.{◌≡◌, ℕ, ◌+◌, ◌<◌, Bool, true, false, cond, not, ◌&&◌, ◌||◌, eqb, List, [], ◌∷◌, ◌++◌, map, length, get_or, take, drop, set, replicate, sym, refl, ap, ◌∙◌, subst, ⊎_elim, arith, lit<}
 use mathlib.Core.Bool.{or-false}
 use mathlib.Core.List.{map-append}
 use Rattle.std.proofs.ByRecursion.{All-get_or}
-use Rattle.std.proofs.lemmas.List.{get_or_past, get_or-set_other, get_or-set_same, length-replicate, take_all, take-append-drop, take_more}
+use Rattle.std.proofs.lemmas.List.{get_or_past, get_or-set_other, get_or-set_same, length-replicate, take-append-drop, take_more}
 use Rattle.std.proofs.lemmas.Bool.{and_left, and_right, cases_eq, cases_lt, eq-eqb, ne_eqb, not_from_true}
 use Rattle.std.proofs.lemmas.Bool.Decides.{nat_tests}
 use Rattle.network.specs.Lists.{among, any_of, distinct}
@@ -22,7 +22,7 @@ site_below net wf i =
 
 -- lists of which no number stands twice
 
-eqb_swap : (a b : ℕ) → eqb a b ≡ eqb b a
+pub eqb_swap : (a b : ℕ) → eqb a b ≡ eqb b a
 eqb_swap a b = grind (arith, nat_tests)
 
 shuffle : (m e d n : Bool) → (not (m || e) && (d && not n)) ≡ ((not m && d) && not (e || n))
@@ -115,6 +115,3 @@ module _ (net : Net) (arcs : List ℕ) where
       let here : distinct (met (k + 1)) ≡ false =
       ap distinct (met_more k y l e) ∙ (distinct_push (met k) y ∙ and_right (distinct (met k)) (not (among y (met k))) (ap not (sym (h y) ∙ old))) in
       ap distinct (met_all (k + 1) (omega arith)) ∙ distinct_front (met (k + 1)) (map to_site (drop (k + 1) arcs)) here
-
-  pub met_once : (k : ℕ) → 0 < length arcs → length arcs ≤ k → distinct (met k) ≡ true → distinct (sites_met net arcs) ≡ true
-  met_once k l all once = ap distinct (whole net arcs l ∙ ap (λ is. (arc_at net (get_or arcs 0 0)).from ∷ map to_site is) (sym (take_all k arcs all))) ∙ once

@@ -1,75 +1,41 @@
 -- Lemmas on entries sorted by their tickets: what is kept, summed and counted, and where a last ticket goes.
-use Rattle.std.proofs.Common.{◌≡◌, ℕ, suc, ◌+◌, Bool, true, false, cond, ◌&&◌, ◌||◌, ltb, List, [], ◌∷◌, ◌++◌, map, length, sum_by, filter, sym, refl, ap, ◌∙◌, arith}
-use Rattle.std.proofs.lemmas.List.Sums.{sum_by-cons}
+use Rattle.std.proofs.Common.{◌≡◌, ℕ, Bool, true, false, cond, ltb, List, [], ◌∷◌, ◌++◌, map, length, sum_by, filter, sym, refl, ap, ◌∙◌, arith}
+use Rattle.std.specs.List.Sorted.{IsPermutation}
+use Rattle.std.proofs.lemmas.List.Sorted.{All-permutation, IsPermutation-cons, IsPermutation-middle, IsPermutation-refl, IsPermutation-trans, length_permutation, list_any-IsPermutation, sum_by-IsPermutation}
+use Rattle.std.proofs.lemmas.List.Sums.{AllPass-from_list_all, list_all-from_AllPass}
 use Rattle.std.proofs.lemmas.Bool.{and_from, and_parts, le-leb, leb-false, leb-true, lt-leb, ltb-true}
 use Rattle.network.specs.Lists.{all_of, any_of, insert, sort}
 use Rattle.ledger.specs.Rows.{earlier}
 use Rattle.ledger.specs.Tally.{Entry, book}
-use Rattle.ledger.proofs.Tests.{all_kept, all_so, and_swap, or_swap}
+use Rattle.ledger.proofs.Tests.{all_kept, all_so}
 
-module _ (test : Entry → Bool) where
-  any_insert : (x : Entry) (ys : List Entry) → any_of test (insert earlier x ys) ≡ (test x || any_of test ys)
-  any_insert x [] = refl
-  any_insert x (y ∷ ys) = go (earlier x y) (any_insert x ys)
-    where
-      go : (b : Bool) → any_of test (insert earlier x ys) ≡ (test x || any_of test ys)
-          → any_of test (cond b (x ∷ (y ∷ ys)) (y ∷ insert earlier x ys)) ≡ (test x || (test y || any_of test ys))
-      go true ih = refl
-      go false ih = ap (λ b. test y || b) ih ∙ or_swap (test y) (test x) (any_of test ys)
+-- sorting moves entries about
 
-  pub any_sort : (xs : List Entry) → any_of test (sort earlier xs) ≡ any_of test xs
-  any_sort [] = refl
-  any_sort (x ∷ xs) = any_insert x (sort earlier xs) ∙ ap (λ b. test x || b) (any_sort xs)
-
-  all_insert : (x : Entry) (ys : List Entry) → all_of test (insert earlier x ys) ≡ (test x && all_of test ys)
-  all_insert x [] = refl
-  all_insert x (y ∷ ys) = go (earlier x y) (all_insert x ys)
-    where
-      go : (b : Bool) → all_of test (insert earlier x ys) ≡ (test x && all_of test ys)
-          → all_of test (cond b (x ∷ (y ∷ ys)) (y ∷ insert earlier x ys)) ≡ (test x && (test y && all_of test ys))
-      go true ih = refl
-      go false ih = ap (λ b. test y && b) ih ∙ and_swap (test y) (test x) (all_of test ys)
-
-  pub all_sort : (xs : List Entry) → all_of test (sort earlier xs) ≡ all_of test xs
-  all_sort [] = refl
-  all_sort (x ∷ xs) = all_insert x (sort earlier xs) ∙ ap (λ b. test x && b) (all_sort xs)
-
-length_insert : (x : Entry) (ys : List Entry) → length (insert earlier x ys) ≡ suc (length ys)
-length_insert x [] = refl
-length_insert x (y ∷ ys) = go (earlier x y) (length_insert x ys)
+pub insert_permutes : (x : Entry) (ys : List Entry) → IsPermutation (x ∷ ys) (insert earlier x ys)
+insert_permutes x [] = IsPermutation-refl (x ∷ [])
+insert_permutes x (y ∷ ys) = go (earlier x y) (insert_permutes x ys)
   where
-    go : (b : Bool) → length (insert earlier x ys) ≡ suc (length ys) → length (cond b (x ∷ (y ∷ ys)) (y ∷ insert earlier x ys)) ≡ suc (suc (length ys))
-    go true ih = refl
-    go false ih = ap suc ih
+    go : (b : Bool) → IsPermutation (x ∷ ys) (insert earlier x ys) → IsPermutation (x ∷ (y ∷ ys)) (cond b (x ∷ (y ∷ ys)) (y ∷ insert earlier x ys))
+    go true ih = IsPermutation-refl (x ∷ (y ∷ ys))
+    go false ih =
+        IsPermutation-trans (x ∷ (y ∷ ys)) (y ∷ (x ∷ ys)) (y ∷ insert earlier x ys) (IsPermutation-middle (x ∷ []) y ys) (IsPermutation-cons y (x ∷ ys) (insert earlier x ys) ih)
+
+pub sort_permutes : (xs : List Entry) → IsPermutation xs (sort earlier xs)
+sort_permutes [] = IsPermutation-refl []
+sort_permutes (x ∷ xs) =
+    IsPermutation-trans (x ∷ xs) (x ∷ sort earlier xs) (sort earlier (x ∷ xs)) (IsPermutation-cons x xs (sort earlier xs) (sort_permutes xs)) (insert_permutes x (sort earlier xs))
+
+pub any_sort : (test : Entry → Bool) (xs : List Entry) → any_of test (sort earlier xs) ≡ any_of test xs
+any_sort test xs = sym (list_any-IsPermutation test xs (sort earlier xs) (sort_permutes xs))
+
+all_permuted : (test : Entry → Bool) (xs ys : List Entry) → IsPermutation xs ys → all_of test xs ≡ true → all_of test ys ≡ true
+all_permuted test xs ys p h = list_all-from_AllPass test ys (All-permutation (λ x. test x ≡ true) xs ys p (AllPass-from_list_all test xs h))
+
+pub all_sort : (test : Entry → Bool) (xs : List Entry) → all_of test xs ≡ true → all_of test (sort earlier xs) ≡ true
+all_sort test xs h = all_permuted test xs (sort earlier xs) (sort_permutes xs) h
 
 pub length_sort : (xs : List Entry) → length (sort earlier xs) ≡ length xs
-length_sort [] = refl
-length_sort (x ∷ xs) = length_insert x (sort earlier xs) ∙ ap suc (length_sort xs)
-
--- sums over what is kept
-module _ (value : Entry → ℕ) (keep : Entry → Bool) where
-  abbrev kept_sum : List Entry → ℕ
-  kept_sum xs = sum_by value (filter keep xs)
-
-  pub kept_sum_cons : (x : Entry) (xs : List Entry) → kept_sum (x ∷ xs) ≡ cond (keep x) (value x) 0 + kept_sum xs
-  kept_sum_cons x xs = go (keep x)
-    where
-      go : (b : Bool) → sum_by value (cond b (x ∷ filter keep xs) (filter keep xs)) ≡ cond b (value x) 0 + kept_sum xs
-      go true = sum_by-cons value x (filter keep xs)
-      go false = omega arith
-
-  kept_sum_insert : (x : Entry) (ys : List Entry) → kept_sum (insert earlier x ys) ≡ cond (keep x) (value x) 0 + kept_sum ys
-  kept_sum_insert x [] = kept_sum_cons x []
-  kept_sum_insert x (y ∷ ys) = go (earlier x y) (kept_sum_insert x ys)
-    where
-      go : (b : Bool) → kept_sum (insert earlier x ys) ≡ cond (keep x) (value x) 0 + kept_sum ys
-          → kept_sum (cond b (x ∷ (y ∷ ys)) (y ∷ insert earlier x ys)) ≡ cond (keep x) (value x) 0 + kept_sum (y ∷ ys)
-      go true ih = kept_sum_cons x (y ∷ ys)
-      go false ih = omega (arith, kept_sum_cons y (insert earlier x ys), kept_sum_cons y ys)
-
-  pub kept_sum_sort : (xs : List Entry) → kept_sum (sort earlier xs) ≡ kept_sum xs
-  kept_sum_sort [] = refl
-  kept_sum_sort (x ∷ xs) = let ih = kept_sum_sort xs in omega (arith, kept_sum_insert x (sort earlier xs), kept_sum_cons x xs)
+length_sort xs = length_permutation xs (sort earlier xs) (sort_permutes xs)
 
 -- each entry is earlier than all that follow
 abbrev Sorted : List Entry → Type 0
@@ -93,7 +59,7 @@ sorted_insert x (y ∷ ys) s = go (earlier x y) refl (sorted_insert x ys s.1)
   where
     go : (b : Bool) → earlier x y ≡ b → Sorted (insert earlier x ys) → Sorted (cond b (x ∷ (y ∷ ys)) (y ∷ insert earlier x ys))
     go true e ih = (earlier_than_all x y ys e s.0, s)
-    go false e ih = (all_insert (earlier y) x ys ∙ and_from _ _ (later x y e) s.0, ih)
+    go false e ih = (all_permuted (earlier y) (x ∷ ys) (insert earlier x ys) (insert_permutes x ys) (and_from _ _ (later x y e) s.0), ih)
 
 sorted_sort : (xs : List Entry) → Sorted (sort earlier xs)
 sorted_sort [] = tt
@@ -126,6 +92,10 @@ module _ (keep : Entry → Bool) where
       go : (b : Bool) → cond b (insert earlier x (sort earlier (filter keep xs))) (sort earlier (filter keep xs)) ≡ sort earlier (cond b (x ∷ filter keep xs) (filter keep xs))
       go true = refl
       go false = refl
+
+-- a sum over what a filter keeps
+pub kept_sum_sort : (value : Entry → ℕ) (keep : Entry → Bool) (xs : List Entry) → sum_by value (filter keep (sort earlier xs)) ≡ sum_by value (filter keep xs)
+kept_sum_sort value keep xs = ap (sum_by value) (kept_sort keep xs) ∙ sum_by-IsPermutation value (filter keep xs) (sort earlier (filter keep xs)) (sort_permutes (filter keep xs))
 
 -- a booking, which keeps the tickets
 module _ (ticket : ℕ) where

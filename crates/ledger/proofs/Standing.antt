@@ -12,7 +12,7 @@ use Rattle.ledger.specs.declared.row.Row.{Row}
 use Rattle.ledger.specs.declared.row.Row.TheVariants.{Empty, Held, Booked}
 use Rattle.ledger.specs.Rows.{circuit_fits, earlier, entries_of, entry_fits, entry_of, fits, has_ticket, in_use, row_entry, row_test, share, width_on}
 use Rattle.ledger.specs.Tally.{Entry, book, is_through}
-use Rattle.ledger.proofs.Sorting.{any_sort, all_sort, before, book_sort, insert_before_last, insert_last, kept_sort, kept_sum_cons, kept_sum_sort, length_sort}
+use Rattle.ledger.proofs.Sorting.{any_sort, all_sort, before, book_sort, insert_before_last, insert_last, kept_sort, kept_sum_sort, length_sort}
 
 -- the entries in the order of the rows
 abbrev pub unsorted : List Row → List Entry
@@ -68,7 +68,11 @@ sum_unsorted arc (r ∷ rs) = go (row_entry r) (sum_unsorted arc rs) ∙ sym (su
     go : (o : Option Entry) → sum_by (λ (x : Entry). x.width) (filter (is_through arc) (unsorted rs)) ≡ sum_by (width_on arc) rs
         → sum_by (λ (x : Entry). x.width) (filter (is_through arc) (cons_option o (unsorted rs))) ≡ option_map_or (share arc) o 0 + sum_by (width_on arc) rs
     go None ih = omega arith
-    go (Some x) ih = kept_sum_cons (λ x. x.width) (is_through arc) x (unsorted rs) ∙ ap (λ n. share arc x + n) ih
+    go (Some x) ih = kept (is_through arc x) ∙ ap (λ n. share arc x + n) ih
+      where
+        kept : (b : Bool) → sum_by (λ (x : Entry). x.width) (cond b (x ∷ filter (is_through arc) (unsorted rs)) (filter (is_through arc) (unsorted rs))) ≡ cond b x.width 0 + sum_by (λ (x : Entry). x.width) (filter (is_through arc) (unsorted rs))
+        kept true = sum_by-cons (λ (x : Entry). x.width) x (filter (is_through arc) (unsorted rs))
+        kept false = omega arith
 
 pub sum_entries : (arc : ℕ) (rows : List Row) → sum_by (λ (x : Entry). x.width) (filter (is_through arc) (entries_of rows)) ≡ sum_by (width_on arc) rows
 sum_entries arc rows = kept_sum_sort (λ x. x.width) (is_through arc) (unsorted rows) ∙ sum_unsorted arc rows
@@ -239,7 +243,7 @@ module _ (given : ℕ) (c : Circuit) (new : given < c.ticket) where
   pub hold_entries : (rows : List Row) (k : ℕ) → k < length rows → in_use (get_or rows k Empty) ≡ false → all_of (fits given) rows ≡ true
       → entries_of (set rows k (Held c)) ≡ entries_of rows ++ (held ∷ [])
   hold_entries [] k l h fit = absurd (omega arith)
-  hold_entries (r ∷ rs) zero l h fit = insert_last held (entries_of rs) (all_sort (before held) (unsorted rs) ∙ all_before rs (and_parts _ _ fit).1) ∙ go (row_entry r) h
+  hold_entries (r ∷ rs) zero l h fit = insert_last held (entries_of rs) (all_sort (before held) (unsorted rs) (all_before rs (and_parts _ _ fit).1)) ∙ go (row_entry r) h
     where
       go : (o : Option Entry) → is_some o ≡ false → (entries_of rs ++ (held ∷ [])) ≡ (sort earlier (cons_option o (unsorted rs)) ++ (held ∷ []))
       go None h = refl

@@ -1,6 +1,6 @@
 -- Lemmas on tests over lists: what some item passes, and what every item passes.
-use Rattle.std.proofs.Common.{◌≡◌, ℕ, zero, suc, ◌<◌, Bool, true, false, cond, ◌&&◌, ◌||◌, List, [], ◌∷◌, length, get_or, set, replicate, filter, refl, ap, ◌∙◌, arith}
-use Rattle.std.proofs.lemmas.Bool.{and_from, and_left, and_parts, and_right, or_from, or_left, or_right}
+use Rattle.std.proofs.Common.{◌≡◌, ℕ, zero, suc, ◌<◌, Bool, true, false, cond, ◌||◌, List, [], ◌∷◌, length, get_or, set, replicate, filter, refl, ap, ◌∙◌, arith}
+use Rattle.std.proofs.lemmas.Bool.{and_from, and_parts, or_from}
 use Rattle.network.specs.Lists.{all_of, any_of}
 
 -- past its end too, a list of one value reads as that value
@@ -9,34 +9,10 @@ get_or_same zero i a = refl
 get_or_same (suc n) zero a = refl
 get_or_same (suc n) (suc i) a = get_or_same n i a
 
-pub or_swap : (a b c : Bool) → (a || (b || c)) ≡ (b || (a || c))
-or_swap true true c = refl
-or_swap true false c = refl
-or_swap false b c = refl
-
-pub and_swap : (a b c : Bool) → (a && (b && c)) ≡ (b && (a && c))
-and_swap true b c = refl
-and_swap false true c = refl
-and_swap false false c = refl
-
 module _ {A : Type 0} (test : A → Bool) where
   pub any_none : (xs : List A) (d : A) → ((k : ℕ) → k < length xs → test (get_or xs k d) ≡ false) → any_of test xs ≡ false
   any_none [] d h = refl
   any_none (x ∷ xs) d h = or_from _ _ (h 0 (omega arith)) (any_none xs d (λ k l. h (suc k) (omega arith)))
-
-  pub any_some : (xs : List A) (d : A) (k : ℕ) → k < length xs → test (get_or xs k d) ≡ true → any_of test xs ≡ true
-  any_some [] d k l h = absurd (omega arith)
-  any_some (x ∷ xs) d zero l h = or_left _ _ h
-  any_some (x ∷ xs) d (suc k) l h = or_right _ _ (any_some xs d k (omega arith) h)
-
-  pub all_from : (xs : List A) (d : A) → ((k : ℕ) → k < length xs → test (get_or xs k d) ≡ true) → all_of test xs ≡ true
-  all_from [] d h = refl
-  all_from (x ∷ xs) d h = and_from _ _ (h 0 (omega arith)) (all_from xs d (λ k l. h (suc k) (omega arith)))
-
-  pub all_broken : (xs : List A) (d : A) (k : ℕ) → k < length xs → test (get_or xs k d) ≡ false → all_of test xs ≡ false
-  all_broken [] d k l h = absurd (omega arith)
-  all_broken (x ∷ xs) d zero l h = and_left _ _ h
-  all_broken (x ∷ xs) d (suc k) l h = and_right _ _ (all_broken xs d k (omega arith) h)
 
   pub all_at : (xs : List A) (d : A) (k : ℕ) → k < length xs → all_of test xs ≡ true → test (get_or xs k d) ≡ true
   all_at [] d k l h = absurd (omega arith)

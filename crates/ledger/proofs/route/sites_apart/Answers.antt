@@ -2,7 +2,7 @@
 use Rattle.std.proofs.Common.{◌<◌, true, false, length, replicate, sym, refl, ap, ◌∙◌, arith}
 use Rattle.std.proofs.lemmas.List.{length-set}
 use Rattle.network.specs.declared.arc.Arc.{Arc}
-use Rattle.ledger.proofs.Sites.{marks_start, met_next, met_once, met_twice}
+use Rattle.ledger.proofs.Sites.{marks_start, met_next, met_twice}
 use Rattle.ledger.proofs.route.sites_apart.Goals as goal
 
 pub loop-number-init : goal.loop-number-init
@@ -24,8 +24,3 @@ loop-number-preserved g c =
     let room : c.from-site.result < length c.loop-number.met = omega arith in
     let next = met_next net c.args.arcs.now c.loop-number.number-index c.from-site.result c.loop-number.met c.loop-number-test.true site room inv.apart inv.marked c.if-met-site.false in
     record { places = length-set c.loop-number.met c.from-site.result _ ∙ inv.places; apart = next.0; marked = next.1 }
-
-pub returns : goal.returns
-returns g c =
-    let net = g.N.Network.meaning c.args.network.now in
-    sym (met_once net c.args.arcs.now c.loop-number.number-index (omega arith) (omega arith) c.loop-number.invariant.apart)

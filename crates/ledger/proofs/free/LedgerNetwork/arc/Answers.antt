@@ -1,10 +1,9 @@
 -- What is sold on an arc is what the entries take on it, so what is left is free.
-use Rattle.std.proofs.Common.{◌≡◌, ◌-◌, cond, Some, sym, ap, ◌∙◌}
-use Rattle.network.specs.declared.arc.Arc.{Arc}
-use Rattle.network.specs.Net.{no_arc, with_capacity}
+use Rattle.std.proofs.Common.{sym, ◌∙◌}
+use Rattle.network.specs.Net.{no_arc}
 use Rattle.network.specs.ListsLemmas.{nth_none, nth_some}
 use Rattle.ledger.specs.Ledgers.{ledger_tally}
-use Rattle.ledger.specs.Tally.{free_on, taken_on}
+use Rattle.ledger.specs.Tally.{free_on}
 use Rattle.ledger.specs.Shown.{arc_below, shown_none, shown_some}
 use Rattle.ledger.proofs.Standing.{sum_entries}
 use Rattle.ledger.proofs.free.LedgerNetwork.arc.Goals as goal
@@ -26,12 +25,7 @@ returns g c =
     let net = g.N.Network.meaning l.network in
     let t = ledger_tally l in
     let i = c.args.number in
-    let arc = c.in_ok-arc.arc in
-    let found = nth_some net.arcs i arc no_arc c.in_ok-arc.ensures in
-    let few = arc_below net (g.met.N.Network.formed l.network) i arc c.in_ok-arc.ensures in
-    let taken = l.sold_is i few ∙ sym (sum_entries i l.rows) in
-    let free : c.free_of.result ≡ free_on net t i =
-    c.free_of.ensures
-    ∙ (ap (λ n. cond (t.marked i) 0 (arc.capacity - n)) taken ∙ ap (λ (a : Arc). cond (t.marked i) 0 (a.capacity - taken_on t i)) (sym found.1)) in
-    ap (λ n. Some (with_capacity n arc)) free
-    ∙ (ap (λ (a : Arc). Some (with_capacity (free_on net t i) a)) (sym found.1) ∙ sym (shown_some net (free_on net t) i found.0))
+    let found = nth_some net.arcs i c.in_ok-arc.arc no_arc c.in_ok-arc.ensures in
+    let taken = l.sold_is i (arc_below net (g.met.N.Network.formed l.network) i c.in_ok-arc.arc c.in_ok-arc.ensures) ∙ sym (sum_entries i l.rows) in
+    let shown = shown_some net (free_on net t) i found.0 in
+    cc

@@ -1,18 +1,15 @@
 -- The checks run in order; where all pass, the empty row turns held, and its entry comes last.
-use Rattle.std.proofs.Common.{◌≡◌, ℕ, ◌+◌, ◌<◌, ◌≤◌, get_or, not, Ok, Err, sym, refl, ap, ◌∙◌, arith, rules}
+use Rattle.std.proofs.Common.{◌≡◌, ◌+◌, ◌<◌, ◌≤◌, get_or, not, sym, refl, ap, ◌∙◌, arith, rules}
 use Rattle.std.proofs.lemmas.Bool.{not-true}
 use Rattle.std.proofs.lemmas.List.Quantifiers.{position-Some}
-use Rattle.std.proofs.lemmas.Result.{err_from_is_err_and}
-use Rattle.network.specs.Checks.{answered, outcome, refusal}
 use Rattle.network.specs.Lists.{among, distinct}
 use Rattle.ledger.specs.Ledgers.{ledger_tally}
 use Rattle.ledger.specs.Routes.{route_refusal}
 use Rattle.ledger.specs.Rows.{in_use}
 use Rattle.ledger.specs.declared.row.Circuit.{Circuit}
 use Rattle.ledger.specs.declared.row.Row.TheVariants.{Empty}
-use Rattle.ledger.specs.declared.slip.Slip.{Slip}
 use Rattle.ledger.specs.Told.{hold_told}
-use Rattle.ledger.specs.Tally.{hold_next, next_ticket, unless_refused}
+use Rattle.ledger.specs.Tally.{hold_next, unless_refused}
 use Rattle.ledger.proofs.Holds.{after_hold, failed_some, held_fit, hold_failed, hold_full, hold_granted, hold_no_ticket, hold_stand, hold_tally, passed_is, passed_none, room_for, route_passed}
 use Rattle.ledger.proofs.Selling.{use_at}
 use Rattle.ledger.proofs.Standing.{entries_full, entries_room, sum_entries}
@@ -28,12 +25,7 @@ returns-in_err-width g c =
     let arcs = c.args.arcs.now in
     let told = hold_told c.in_err-width.field-0.0 in
     let refused = hold_failed net t width arcs told (failed_some (width, arcs) (route_refusal net t width arcs) told c.in_err-width.ensures) in
-    let p = err_from_is_err_and c.from_residual.result c.from_residual.ensures.1 in
-    record {
-      answer = ap (outcome {A = Slip g.row.N.Denot} {B = ℕ} (λ slip. slip.ticket) hold_told) p.1 ∙ (ap (λ r. Err (hold_told r)) p.2 ∙ sym (ap (λ o. answered o (next_ticket t)) refused));
-      tally = sym (ap (λ o. unless_refused o (hold_next t width arcs) t) refused);
-      network = refl;
-    }
+    record { answer = search rules; tally = search rules; network = refl }
 
 pub returns-in_err-place : goal.returns-in_err-place
 returns-in_err-place g c =
@@ -45,13 +37,7 @@ returns-in_err-place g c =
     let passed = passed_none (width, arcs) (route_refusal net t width arcs) _ c.in_ok-width.ensures in
     let full = entries_full l.rows (full_of l.rows (sym c.in_err-place.ensures.ok_part ∙ c.empty_row.ensures)) in
     let refused = hold_full net t width arcs passed (omega (arith, full)) in
-    let p = err_from_is_err_and c.from_residual-in_err-place.result c.from_residual-in_err-place.ensures.1 in
-    let told : hold_told p.0 ≡ refusal 36 = search rules in
-    record {
-      answer = ap (outcome {A = Slip g.row.N.Denot} {B = ℕ} (λ slip. slip.ticket) hold_told) p.1 ∙ (ap Err told ∙ sym (ap (λ o. answered o (next_ticket t)) refused));
-      tally = sym (ap (λ o. unless_refused o (hold_next t width arcs) t) refused);
-      network = refl;
-    }
+    record { answer = search rules; tally = search rules; network = refl }
 
 pub returns-in_err-ticket : goal.returns-in_err-ticket
 returns-in_err-ticket g c =
@@ -65,13 +51,7 @@ returns-in_err-ticket g c =
     let at = position-Some (λ row. not (in_use row)) l.rows k Empty (sym c.empty_row.ensures ∙ c.in_ok-place.ensures.ok_part) in
     let last : 4294967295 ≤ l.given = search rules in
     let refused = hold_no_ticket net t width arcs passed (omega (arith, entries_room l.rows k at.0 (not-true _ at.1))) last in
-    let p = err_from_is_err_and c.from_residual-in_err-ticket.result c.from_residual-in_err-ticket.ensures.1 in
-    let told : hold_told p.0 ≡ refusal 37 = search rules in
-    record {
-      answer = ap (outcome {A = Slip g.row.N.Denot} {B = ℕ} (λ slip. slip.ticket) hold_told) p.1 ∙ (ap Err told ∙ sym (ap (λ o. answered o (next_ticket t)) refused));
-      tally = sym (ap (λ o. unless_refused o (hold_next t width arcs) t) refused);
-      network = refl;
-    }
+    record { answer = search rules; tally = search rules; network = refl }
 
 pub change_sold-requires : goal.change_sold-requires
 change_sold-requires g c =
@@ -143,7 +123,7 @@ returns g c =
     (λ arc la m. let changed = c.change_sold.ensures.changed arc (ap (among arc) c.as_slice.ensures ∙ m) in search rules)
     (λ arc m. c.change_sold.ensures.others arc (ap (among arc) c.as_slice.ensures ∙ m)) c.change_sold.ensures.closed in
     record {
-      answer = ap Ok (c.new.ensures ∙ ticket) ∙ sym (ap (λ o. answered o (next_ticket t)) granted);
+      answer = search rules;
       tally = next ∙ (ap (λ p. hold_next t p.0 p.1) same ∙ sym (ap (λ o. unless_refused o (hold_next t width arcs) t) granted));
       network = refl;
     }

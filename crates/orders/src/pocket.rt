@@ -1,7 +1,6 @@
 // The slips in hand.
-ghost use Rattle.std.specs.Prelude.{◌≡◌, ◌<◌, true, false, [], ◌∷◌, ◌++◌, is_ok, vec_len, MatchOption, ◌==◌, slice_index};
+ghost use Rattle.std.specs.Prelude.{◌≡◌, true, [], ◌∷◌, ◌++◌, is_ok, ◌==◌};
 ghost use Rattle.std.specs.List.{position};
-ghost use Rattle.network.specs.Lists.{among};
 ghost use Rattle.ledger.specs.Ledgers.{ledger_tally};
 ghost use Rattle.ledger.specs.Slips.{ticket_on};
 ghost use Rattle.orders.specs.InHand.{AllHeld, Room, Taken, in_hand};

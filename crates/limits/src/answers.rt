@@ -1,4 +1,5 @@
-// Refusals as this program shows them.
+// Refusals as this program shows them. `pathcomputer` has a ':' for the ',' and shares no crate with this program but the
+// library, which prints nothing.
 use network::Refusal;
 use std::fmt;
 

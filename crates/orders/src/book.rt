@@ -81,13 +81,6 @@ pub(super) struct OrderBook {
 // The memory for one enquiry.
 fn new_memory(heap: Global, lines: u32) -> Result<Memory<u32>, AllocError> {
     let table = || vec![in heap; None; SITES];
-    let blank = RouteRow {
-        count: 0,
-        arcs: [0; 15],
-        delay: 0,
-        jitter: 0,
-        charge: 0,
-    };
     Ok(Memory {
         length: table()?,
         delay: table()?,
@@ -95,7 +88,7 @@ fn new_memory(heap: Global, lines: u32) -> Result<Memory<u32>, AllocError> {
         charge: table()?,
         hops: table()?,
         notebook: vec![in heap; Line::blank(0); lines.min(LINES) as usize]?,
-        list: vec![in heap; blank; ROWS]?,
+        list: vec![in heap; RouteRow::default(); ROWS]?,
     })
 }
 

@@ -113,7 +113,7 @@ fn totals(rt: &HostRuntime, path: &str, destination: u32, width: u32) -> Result<
     Ok(())
 }
 
-// Prints the least totals of one site.
+// Prints the least totals of one site: of each column, a table by site, the place of the site.
 fn print_row(rt: &HostRuntime, site: u8, columns: &[[Option<u32>; 64]; 6]) -> Result<(), Failure> {
     print!(rt; "{site:>4}")?;
     for column in columns {

@@ -4,7 +4,7 @@ use Rattle.std.specs.List.{range_with_len, slice_get}
 use Rattle.std.proofs.lemmas.List.FromFn.{map-range_with_len_more}
 use Rattle.std.proofs.lemmas.List.{append_assoc, append-nil, get_or_append_left, get_or_push, length-append, length_push, length-set, length-take-le, map-append, take_more}
 use Rattle.std.proofs.lemmas.List.Elements.{filter_more}
-use Rattle.std.proofs.lemmas.Bool.{and_from, and_parts, cases_eq, eqb-true, eqb-false}
+use Rattle.std.proofs.lemmas.Bool.{and_from, and_parts, cases_eq, eq-eqb, eqb-false, eqb-true, ne_eqb}
 use Rattle.network.specs.ListsLemmas.{some_same, none_some}
 use Rattle.network.specs.Lists.{In}
 use Rattle.network.specs.Net.{Net, WellFormed, arc_count}
@@ -17,6 +17,7 @@ use Rattle.routes.specs.Partial.{admissible_of, line_count, partial_routes, is_p
 use Rattle.routes.specs.Lines.{Asked, OnLine, line_of, next_line, is_writable}
 use Rattle.routes.specs.Choice.{AllTaken, FirstLine}
 use Rattle.routes.specs.Work.{Completed, Ended, Noted, OneLine, marked, notebook_after, used_after}
+use Rattle.routes.proofs.Chosen.{chosen_used}
 use Rattle.routes.proofs.Lines.{Admitted, at_place, in_admissible_of}
 use Rattle.routes.proofs.Noted.{few_of, noted_mark, noted_write}
 use Rattle.routes.proofs.Parents.{some_there}
@@ -64,6 +65,12 @@ module _ {K L : Type 0} (model : K → Model L) (net : Net) (e : Enquiry K) wher
     pub wanting : length finished < e.wanted
     pub completed : Completed model net e (written model net e (take k (partial_routes model net e))) (filter (is_complete net e) (take k (partial_routes model net e))) finished
 
+  -- what is known of the kind, the network and the enquiry
+  pub record Known : Type 0 where
+    pub law : Lawful (model e.kind)
+    pub wf : WellFormed net
+    pub asked : Asked net e
+
   next_taken : (k : ℕ) → k < length PR → take (k + 1) PR ≡ take k PR ++ get_or PR k [] ∷ []
   next_taken k h = take_more PR k [] h
 
@@ -110,13 +117,22 @@ module _ {K L : Type 0} (model : K → Model L) (net : Net) (e : Enquiry K) wher
       elsewhere : (j : ℕ) → j < length finished → (get_or (finished ++ at ∷ []) j 0 < length routes) × (get_or routes (get_or (finished ++ at ∷ []) j 0) [] ≡ get_or (complete ++ route ∷ []) j [])
       elsewhere j h = rw (get_or_append_left finished (at ∷ []) 0 j h, get_or_append_left complete (route ∷ []) [] j (omega (arith, done.count))) (done.each j h)
 
-  module _ (law : Lawful (model e.kind)) (wf : WellFormed net) (asked : Asked net e) where
+  module _ (known : Known) where
+    abbrev law : Lawful (model e.kind)
+    law = known.law
+
+    abbrev wf : WellFormed net
+    wf = known.wf
+
+    abbrev asked : Asked net e
+    asked = known.asked
+
     -- the start: what is written for the empty partial route
-    pub work_starts : (lines : ℕ) (notebook after : List (Line L)) (used : ℕ) → length notebook ≡ lines
+    pub work_starts : {lines : ℕ} (notebook : List (Line L)) {after : List (Line L)} {used : ℕ} → length notebook ≡ lines
         → Some used ≡ used_after (cond (is_writable model net e []) (Some (line_of model net e false [])) None) 0 lines
         → after ≡ notebook_after (cond (is_writable model net e []) (Some (line_of model net e false [])) None) 0 lines notebook
         → Working lines 0 used after []
-    work_starts lines notebook after used room u a =
+    work_starts {lines} notebook {after} {used} room u a =
         record {
           some = omega arith;
           noted = subst (λ r. Noted model net e r [] after used) (sym (written_empty model net e ∙ admissible_push model net e [] [])) (begin (is_writable model net e []) u a);
@@ -158,8 +174,11 @@ module _ {K L : Type 0} (model : K → Model L) (net : Net) (e : Enquiry K) wher
           omega (arith, noted.room),
         )
 
-    module _ (lines k used : ℕ) (notebook : List (Line L)) (finished : List ℕ) (work : Working lines k used notebook finished) (at : ℕ) (f : FirstLine (model e.kind) notebook used at) (line : Line L)
-        (there : slice_get notebook at ≡ Some line) where
+    module _ {lines k used : ℕ} {notebook : List (Line L)} {finished : List ℕ} (work : Working lines k used notebook finished) {shown : List (Line L)} (are : shown ≡ take used notebook)
+        {at : ℕ} (chosen : FirstLine (model e.kind) shown (length shown) at) {line : Line L} (there : slice_get notebook at ≡ Some line) where
+      f : FirstLine (model e.kind) notebook used at
+      f = chosen_used (model e.kind) notebook used shown are (Some at) work.noted.room chosen
+
       step : (k < length PR) × (get_or (W k) at [] ≡ get_or PR k [])
       step = next_is model net e law wf asked k notebook used work.noted at f
 
@@ -201,10 +220,16 @@ module _ {K L : Type 0} (model : K → Model L) (net : Net) (e : Enquiry K) wher
           (and_parts (some_site (end_of net e (get_or PR k []))) _ (and_parts (is_path net e (get_or PR k [])) _ admitted.0).0).0
 
       -- whether it has arrived is told by where it ends
-      pub step_arrived : is_complete net e (get_or (partial_routes model net e) k []) ≡ eqb line.end e.destination
+      step_arrived : is_complete net e (get_or (partial_routes model net e) k []) ≡ eqb line.end e.destination
       step_arrived =
           ap (at_site e.destination) ends.1
           ∙ ap (λ n. eqb n e.destination) (sym (ap (λ (l : Line L). l.end) line_is ∙ ap (λ o. unwrap_or o 0) ends.1))
+
+      complete : line.end ≡ e.destination → is_complete net e (get_or (partial_routes model net e) k []) ≡ true
+      complete here = step_arrived ∙ eq-eqb line.end e.destination here
+
+      open_still : (line.end ≡ e.destination → ⊥) → is_complete net e (get_or (partial_routes model net e) k []) ≡ false
+      open_still away = step_arrived ∙ ne_eqb line.end e.destination away
 
       -- the notebook with the line marked
       step_noted : Noted model net e (W k) (take (k + 1) PR) (set notebook at (marked line)) used
@@ -226,16 +251,17 @@ module _ {K L : Type 0} (model : K → Model L) (net : Net) (e : Enquiry K) wher
       noted_now : is_complete net e (get_or PR k []) ≡ true → Noted model net e (W (k + 1)) (take (k + 1) PR) (set notebook at (marked line)) used
       noted_now full = subst (λ r. Noted model net e r (take (k + 1) PR) (set notebook at (marked line)) used) (sym (written_same k step_more full)) step_noted
 
-      pub goes_on : is_complete net e (get_or (partial_routes model net e) k []) ≡ true → (length finished + 1 ≡ e.wanted → ⊥) → Working lines (k + 1) used (set notebook at (marked line)) (finished ++ at ∷ [])
-      goes_on full not_all =
+      pub goes_on : line.end ≡ e.destination → (length finished + 1 ≡ e.wanted → ⊥) → Working lines (k + 1) used (set notebook at (marked line)) (finished ++ at ∷ [])
+      goes_on here not_all =
+          let full = complete here in
           record { some = omega (arith, step_more); noted = noted_now full; long = length-set notebook at (marked line) ∙ work.long; wanting = omega (arith, work.wanting, length_push finished at); completed = done_now full }
 
       -- it has not arrived, and is made longer
-      pub widens : is_complete net e (get_or (partial_routes model net e) k []) ≡ false → Widening lines k 0 used (set notebook at (marked line)) finished line
+      pub widens : (line.end ≡ e.destination → ⊥) → Widening lines k 0 used (set notebook at (marked line)) finished line
       widens away =
           record {
             more = step_more;
-            away = away;
+            away = open_still away;
             on = step_on;
             route = route_is;
             noted = subst (λ r. Noted model net e r (take (k + 1) PR) (set notebook at (marked line)) used) (sym (append-nil (W k))) step_noted;
@@ -245,23 +271,24 @@ module _ {K L : Type 0} (model : K → Model L) (net : Net) (e : Enquiry K) wher
           }
 
       -- it has arrived, and is the last that is wanted
-      pub all_wanted : is_complete net e (get_or (partial_routes model net e) k []) ≡ true → length finished + 1 ≡ e.wanted
+      pub all_wanted : line.end ≡ e.destination → length finished + 1 ≡ e.wanted
           → Ended model net e (finished ++ at ∷ []) (set notebook at (marked line)) used × (line_count model net e ≤ lines)
-      all_wanted full last =
+      all_wanted here last =
+          let full = complete here in
           let now = done_now full in
           let before : complete_of model net e (take k PR) < e.wanted = subst (λ n. n < e.wanted) work.completed.count work.wanting in
           let stop : taken model net e ≡ take (k + 1) PR = taken_stop model net e k step_more before (omega (arith, now.count, length_push finished at)) in
           finish lines (k + 1) used (set notebook at (marked line)) (finished ++ at ∷ []) (noted_now full) now (length-set notebook at (marked line) ∙ work.long) stop
 
     -- no line is left
-    pub none_left_over : (lines k used : ℕ) (notebook : List (Line L)) (finished : List ℕ) → Working lines k used notebook finished → AllTaken (model e.kind) notebook used
-        → Ended model net e finished notebook used × (line_count model net e ≤ lines)
-    none_left_over lines k used notebook finished work every =
-        let last = none_more model net e law wf asked k notebook used work.noted work.some every in
+    pub none_left_over : {lines k used : ℕ} {notebook : List (Line L)} {finished : List ℕ} (work : Working lines k used notebook finished) {shown : List (Line L)} → shown ≡ take used notebook
+        → AllTaken (model e.kind) shown (length shown) → Ended model net e finished notebook used × (line_count model net e ≤ lines)
+    none_left_over {lines} {k} {used} {notebook} {finished} work {shown} are every =
+        let last = none_more model net e law wf asked k notebook used work.noted work.some (chosen_used (model e.kind) notebook used shown are None work.noted.room every) in
         let before : complete_of model net e (take k PR) < e.wanted = subst (λ n. n < e.wanted) work.completed.count work.wanting in
         finish lines k used notebook finished work.noted work.completed work.long (taken_end model net e k (omega arith) before)
 
-    module _ (lines k i used : ℕ) (notebook : List (Line L)) (finished : List ℕ) (line : Line L) (wide : Widening lines k i used notebook finished line) where
+    module _ {lines k i used : ℕ} {notebook : List (Line L)} {finished : List ℕ} {line : Line L} (wide : Widening lines k i used notebook finished line) where
       p : List ℕ
       p = get_or PR k []
 
@@ -287,7 +314,7 @@ module _ {K L : Type 0} (model : K → Model L) (net : Net) (e : Enquiry K) wher
         Note : List (List ℕ) → List (Line L) → ℕ → Type 0
         Note routes after used' = Noted model net e (W k ++ routes) (take (k + 1) PR) after used'
 
-        module _ (after : List (Line L)) (used' : ℕ) where
+        module _ {after : List (Line L)} {used' : ℕ} where
           written_one : (c : Bool) → eqb used lines ≡ c → is_writable model net e (get_or PR k [] ++ i ∷ []) ≡ true → Some used' ≡ cond c None (Some (used + 1))
               → after ≡ cond c notebook (set notebook used (line_of model net e false (get_or PR k [] ++ i ∷ []))) → Note (longer i ++ (get_or PR k [] ++ i ∷ []) ∷ []) after used'
           unfolding Note longer

@@ -4,26 +4,24 @@ ghost use Rattle.network.specs.Copies.{copy_meaning};
 ghost use Rattle.length.specs.declared.standard.StandardKind.TheVariants.{Delay, Jitter, Charge, Hops};
 ghost use Rattle.length.specs.Standard.{standard};
 ghost use Rattle.length.specs.Least.{table_after};
-ghost use Rattle.routes.specs.Lines.{Asked};
 
 use super::enquiry::Enquiry;
 use length::{Kind, StandardKind, least_totals};
 use network::NetworkCopy;
 
 // Fills one table, which has a place for each site.
-fn fill_one<K: Kind>(
+fn fill_one<Q, K: Kind>(
     network: &NetworkCopy,
+    enquiry: &Enquiry<Q>,
     kind: &K,
-    destination: u32,
-    width: u32,
     table: &mut [Option<K::Length>],
 )
-    requires destination { destination < (copy_meaning network.now).sites }
-    requires width { 0 < width }
+    requires destination { enquiry.now.destination < (copy_meaning network.now).sites }
+    requires width { 0 < enquiry.now.width }
     requires table { (copy_meaning network.now).sites ≤ length table.old }
-    ensures { table.new ≡ table_after (K.Kind.model kind.now) (copy_meaning network.now) width destination table.old }
+    ensures { table.new ≡ table_after (K.Kind.model kind.now) (copy_meaning network.now) enquiry.now.width enquiry.now.destination table.old }
 {
-    let _ = least_totals(network, kind, destination, width, table);
+    let _ = least_totals(network, kind, enquiry.destination, enquiry.width, table);
 }
 
 // The tables that a caller lends: least totals in the enquiry's kind, and of the four figures that have limits.
@@ -42,7 +40,7 @@ pub(super) fn fill_tables<K: Kind>(
     enquiry: &Enquiry<K>,
     tables: &mut LentTables<'_, K::Length>,
 )
-    requires asked { Asked (copy_meaning network.now) enquiry.now }
+    requires destination { enquiry.now.destination < (copy_meaning network.now).sites }
     requires width { 0 < enquiry.now.width }
     requires length { (copy_meaning network.now).sites ≤ length tables.old.length.now }
     requires delay { (copy_meaning network.now).sites ≤ length tables.old.delay.now }
@@ -60,35 +58,9 @@ pub(super) fn fill_tables<K: Kind>(
     ensures same_charge { tables.new.charge.ghost_name ≡ tables.old.charge.ghost_name }
     ensures same_hops { tables.new.hops.ghost_name ≡ tables.old.hops.ghost_name }
 {
-    let destination = enquiry.destination;
-    let width = enquiry.width;
-    fill_one(network, &enquiry.kind, destination, width, tables.length);
-    fill_one(
-        network,
-        &StandardKind::Delay,
-        destination,
-        width,
-        tables.delay,
-    );
-    fill_one(
-        network,
-        &StandardKind::Jitter,
-        destination,
-        width,
-        tables.jitter,
-    );
-    fill_one(
-        network,
-        &StandardKind::Charge,
-        destination,
-        width,
-        tables.charge,
-    );
-    fill_one(
-        network,
-        &StandardKind::Hops,
-        destination,
-        width,
-        tables.hops,
-    );
+    fill_one(network, enquiry, &enquiry.kind, tables.length);
+    fill_one(network, enquiry, &StandardKind::Delay, tables.delay);
+    fill_one(network, enquiry, &StandardKind::Jitter, tables.jitter);
+    fill_one(network, enquiry, &StandardKind::Charge, tables.charge);
+    fill_one(network, enquiry, &StandardKind::Hops, tables.hops);
 }

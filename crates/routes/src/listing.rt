@@ -24,6 +24,7 @@ pub(super) fn list_rows<L: Copy>(notebook: &[Line<L>], places: &[usize], list: &
     requires inside { PlacesInside notebook.now places.now }
     ensures { list.new ≡ rows_at notebook.now places.now ++ drop (length places.now) list.old }
 {
+    // by index: a proof knows no element of a slice after writes through `iter_mut` in a `zip`
     for (row, place) in places.iter().enumerate() {
         list[row] = row_of(&notebook[*place]);
     }

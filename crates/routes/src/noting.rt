@@ -34,6 +34,7 @@ impl<'a, L: Copy> Notebook<'a, L> {
         if self.used == self.lines.len() {
             return None;
         }
+        // by index: a proof knows no element of a slice after a write through `get_mut`
         self.lines[self.used] = line;
         self.used += 1;
         Some(())

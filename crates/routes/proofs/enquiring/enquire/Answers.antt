@@ -38,14 +38,14 @@ returns-in_err-early_checks g c =
       same_hops = refl;
     })
 
-pub fill_tables-requires-clause-asked : goal.fill_tables-requires-clause-asked
-fill_tables-requires-clause-asked g c =
+pub fill_tables-requires-clause-destination : goal.fill_tables-requires-clause-destination
+fill_tables-requires-clause-destination g c =
     let model = g.K.Kind.model in
     let net = copy_meaning c.of-copy.result in
     let b = brought c.args.enquiry.now c.args.tables.now c.args.list.now (length c.args.notebook.now) in
     let sizes : Sizes = record { sites = c.from.result; list = length c.args.list.now; tables = c.shortest.result } in
     let none = sym (same_checks model net b sizes (c.from.ensures ∙ c.sites.ensures) refl c.shortest.ensures) ∙ checks_passed (first_failed (size_checks b.enquiry sizes)) c.in_ok-early_checks.ensures in
-    (early_passed model net b none).asked
+    (early_passed model net b none).asked.destination_there
 
 pub invariant_of-search : goal.invariant_of-search
 invariant_of-search g c =

@@ -3,6 +3,7 @@ use Rattle.std.proofs.Common.{◌≡◌, ℕ, zero, suc, true, cond, [], replica
 use Rattle.std.specs.List.{filter_map}
 use Rattle.std.proofs.lemmas.List.Sums.{sum_by-cons}
 use Rattle.network.specs.Lists.{all_of, sort}
+use Rattle.ledger.specs.declared.arcs.ArcUse.{ArcUse}
 use Rattle.ledger.specs.declared.row.Row.{Row}
 use Rattle.ledger.specs.declared.row.Row.TheVariants.{Empty}
 use Rattle.ledger.specs.Rows.{OneRowEach, SoldIs, earlier, entries_of, fits, has_ticket, no_use, row_entry, width_on}
@@ -25,8 +26,8 @@ pub fits_blank : (n : ℕ) → all_of (fits 0) (replicate n Empty) ≡ true
 fits_blank zero = refl
 fits_blank (suc n) = fits_blank n
 
-pub sold_blank : (n m : ℕ) → SoldIs (replicate m no_use) (replicate n Empty)
-sold_blank n m arc l = ap (λ u. u.sold) (get_or_same m arc no_use) ∙ sym (sum_blank (width_on arc) refl n)
+pub sold_blank : (n m : ℕ) (u : ArcUse) → u ≡ no_use → SoldIs (replicate m u) (replicate n Empty)
+sold_blank n m u e = rw e (λ arc l. ap (λ u. u.sold) (get_or_same m arc no_use) ∙ sym (sum_blank (width_on arc) refl n))
 
-pub opened_blank : (n m : ℕ) → ◌≡◌ {A = Tally} (record { marked = λ i. (use_at (replicate m no_use) i).closed; given = 0; entries = entries_of (replicate n Empty) }) opened
-opened_blank n m = λ i. record { marked = λ j. (get_or_same m j no_use i).closed; given = 0; entries = sort earlier (kept_blank n i) }
+pub opened_blank : (n m : ℕ) (u : ArcUse) → u ≡ no_use → ◌≡◌ {A = Tally} (record { marked = λ i. (use_at (replicate m u) i).closed; given = 0; entries = entries_of (replicate n Empty) }) opened
+opened_blank n m u e = rw e (λ i. record { marked = λ j. (get_or_same m j no_use i).closed; given = 0; entries = sort earlier (kept_blank n i) })

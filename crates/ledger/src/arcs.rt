@@ -4,7 +4,7 @@ ghost use Rattle.network.specs.Lists.{among, distinct};
 ghost use Rattle.ledger.specs.Rows.{no_use};
 
 // Whether an arc is closed, and how much is sold on it.
-#[derive(Clone, Copy)]
+#[derive(Clone, Copy, Default)]
 pub struct ArcUse {
     pub closed: bool,
     pub sold: u8,

@@ -19,13 +19,9 @@ impl<N: Network> Ledger<N> {
         ensures tally { ledger_tally result ≡ opened }
         ensures network { result.network ≡ network }
     {
-        let unused = ArcUse {
-            closed: false,
-            sold: 0,
-        };
         Ledger {
             network,
-            arcs: [unused; 256],
+            arcs: [ArcUse::default(); 256],
             rows: [Row::Empty; 64],
             given: 0,
         }

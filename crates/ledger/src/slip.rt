@@ -27,6 +27,7 @@ pub enum SlipRefusal<N> {
 impl<N: Network> Refusal for SlipRefusal<N> {
     ghost told = { slip_told };
 
+    // A match, since a variant that holds a slip has no number to cast.
     fn number(&self) -> u32 {
         match self {
             SlipRefusal::NotHeld(_) => 40,
@@ -45,6 +46,7 @@ impl<N: Network> SlipRefusal<N> {
     }
 }
 
+// Not derived, since the slip in it cannot be dropped, as an error has to be.
 impl<N: Network> fmt::Display for SlipRefusal<N> {
     fn fmt<W: fmt::Write>(&self, f: &mut fmt::Formatter<W>) -> fmt::Result {
         match self {

@@ -36,6 +36,7 @@ fn number_after(words: &mut SplitWhitespace<'_>, label: &str) -> Result<u32, Ord
     next_number(words)
 }
 
+// By a match: the kind and the text are types of other crates, so that neither `TryFrom` nor `FromStr` can be written here.
 fn read_kind(word: &str) -> Result<StandardKind, OrderFault> {
     Ok(match word {
         "weight" => StandardKind::Weight,

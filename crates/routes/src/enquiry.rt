@@ -21,7 +21,8 @@ pub struct Enquiry<K> {
     pub kind: K,
 }
 
-// One row of a caller's list: a route. `arcs` has the arc numbers in its first `count` places, and 0 in the others.
+// One row of a caller's list: a route. `arcs` has the arc numbers in its first `count` places, and 0 in the others: plain
+// numbers, since a caller reads them as they lie.
 #[derive(Clone, Copy, Default, PartialEq, Eq, Debug)]
 pub struct RouteRow {
     pub count: u32,

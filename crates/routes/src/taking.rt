@@ -35,6 +35,7 @@ pub(super) fn take_lines<K: Kind>(
             }
             continue 'taking;
         }
+        // by number, since a line is written with the number of its arc
         for number in 0..search.network.arcs() {
             notebook.note(search.extended(&line, number as u8))?;
         }

@@ -21,11 +21,11 @@ passed_one true t rest h = absurd (none_some (sym h))
 passed_one false t rest h = (refl, h)
 
 -- what the result of checks tells
-pub checks_failed : (o : Option Told) (t : Told) → Err t ≡ answered {A = Unit {0}} o tt → o ≡ Some t
+checks_failed : (o : Option Told) (t : Told) → Err t ≡ answered {A = Unit {0}} o tt → o ≡ Some t
 checks_failed None t q = cc
 checks_failed (Some r) t q = cc
 
-pub checks_passed : (o : Option Told) → Ok tt ≡ answered {A = Unit {0}} o tt → o ≡ None
+checks_passed : (o : Option Told) → Ok tt ≡ answered {A = Unit {0}} o tt → o ≡ None
 checks_passed None q = refl
 checks_passed (Some r) q = cc
 
@@ -88,12 +88,19 @@ pub shortest_short : {L : Type 0} (t : Tables L) (n : ℕ)
 shortest_short t n = grind (arith, nat_tests)
 
 -- the checks by sizes are those of the enquiry
-pub same_checks : {K L : Type 0} (model : K → Model L) (net : Net) (b : Brought K L) (sizes : Sizes) → sizes.sites ≡ net.sites → sizes.list ≡ length b.list
-    → sizes.tables ≡ min (min (min (length b.tables.by_kind) (length b.tables.by_delay)) (min (length b.tables.by_jitter) (length b.tables.by_charge))) (length b.tables.by_hops)
-    → first_failed (size_checks b.enquiry sizes) ≡ first_failed (early_checks model net b)
-same_checks model net b sizes p q r =
-    let short : ltb sizes.tables sizes.sites ≡ shorter_than net.sites b.tables = (λ k. ltb (r k) (p k)) ∙ shortest_short b.tables net.sites in
-    λ k. first_failed (checks_before b.enquiry (p k) (q k) (short k))
+module _ {K L : Type 0} (model : K → Model L) (net : Net) (b : Brought K L) (sizes : Sizes) (sites : sizes.sites ≡ net.sites) (rows : sizes.list ≡ length b.list)
+    (places : sizes.tables
+    ≡ min (min (min (length b.tables.by_kind) (length b.tables.by_delay)) (min (length b.tables.by_jitter) (length b.tables.by_charge))) (length b.tables.by_hops)) where
+  same_checks : first_failed (size_checks b.enquiry sizes) ≡ first_failed (early_checks model net b)
+  same_checks =
+      let short : ltb sizes.tables sizes.sites ≡ shorter_than net.sites b.tables = (λ k. ltb (places k) (sites k)) ∙ shortest_short b.tables net.sites in
+      λ k. first_failed (checks_before b.enquiry (sites k) (rows k) (short k))
+
+  pub one_failed : (told : Told) → Err told ≡ answered {A = Unit {0}} (first_failed (size_checks b.enquiry sizes)) tt → first_failed (early_checks model net b) ≡ Some told
+  one_failed told q = sym same_checks ∙ checks_failed (first_failed (size_checks b.enquiry sizes)) told q
+
+  pub none_failed : Ok tt ≡ answered {A = Unit {0}} (first_failed (size_checks b.enquiry sizes)) tt → first_failed (early_checks model net b) ≡ None
+  none_failed q = sym same_checks ∙ checks_passed (first_failed (size_checks b.enquiry sizes)) q
 
 -- a filled table holds the least totals
 pub filled_holds : {L : Type 0} (m : Model L) (net : Net) (width destination : ℕ) (brought table : List (Option L)) → table ≡ table_after m net width destination brought

@@ -62,10 +62,6 @@ module _ {K : Type 0} (net : Net) (wf : WellFormed net) (e : Enquiry K) where
       (in_joined (extended net) (paths_of net e k) p (p ++ i ∷ []) (in_paths_of k p b.0 s.3) (in_extended p i b.1)) hq in
       subst (λ x. In x (paths_of net e (suc k))) (sym s.2) found
 
-  paths_of_path : (k : ℕ) (r : List ℕ) → In r (paths_of net e k) → is_path net e r ≡ true
-  paths_of_path zero r i = (from_kept (is_path net e) ([] ∷ []) r i).1
-  paths_of_path (suc k) r i = (from_kept (is_path net e) (flat_map (extended net) (paths_of net e k)) r i).1
-
   paths_of_length : (k : ℕ) (r : List ℕ) → In r (paths_of net e k) → length r ≡ k
   paths_of_length zero r i = elim (from_kept (is_path net e) ([] ∷ []) r i).0 [ inl q ↦ ap length q | inr j ↦ absurd j ]
   paths_of_length (suc k) r i =

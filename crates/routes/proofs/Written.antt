@@ -167,10 +167,6 @@ module _ {K L : Type 0} (model : K → Model L) (net : Net) (e : Enquiry K) wher
       at_most_sum (length (written model net e ps)) (length (written model net e (take k ps))) (length rest) (whole ∙ sum)
 
   -- no more lines are written on the way than there are at the end
-  pub lines_so_far : (k : ℕ) → complete_of (take k (partial_routes model net e)) < e.wanted
-      → length (written model net e (take k (partial_routes model net e))) ≤ line_count model net e
-  lines_so_far k h = subst (λ ps. length (written model net e ps) ≤ line_count model net e) (taken_prefix k h) (written_grows k (taken model net e))
-
   pub lines_more : (k : ℕ) → k < length (partial_routes model net e) → complete_of (take k (partial_routes model net e)) < e.wanted
       → length (written model net e (take (k + 1) (partial_routes model net e))) ≤ line_count model net e
   lines_more k l h = subst (λ ps. length (written model net e ps) ≤ line_count model net e) (taken_more k l h) (written_grows (k + 1) (taken model net e))

@@ -14,15 +14,7 @@ use Rattle.routes.specs.Lines.{line_of}
 
 -- a line that is marked taken
 abbrev pub marked : {L : Type 0} → Line L → Line L
-marked line =
-    record {
-      length = line.length;
-      projected = line.projected;
-      totals = line.totals;
-      arcs = line.arcs;
-      end = line.end;
-      taken = true;
-    }
+marked line = record line { taken = true }
 
 module _ {K L : Type 0} (model : K → Model L) (net : Net) (e : Enquiry K) where
   -- the line at a place is that of the partial route written there, marked if that is among those taken

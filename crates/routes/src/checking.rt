@@ -28,10 +28,10 @@ pub(super) fn early_checks<K>(enquiry: &Enquiry<K>, sizes: Sizes) -> Result<(), 
     if enquiry.width == 0 {
         return Err(EnquiryRefusal::WidthZero);
     }
-    if !(1..=15).contains(&enquiry.limits.hops) {
+    if enquiry.limits.hops < 1 || enquiry.limits.hops > 15 {
         return Err(EnquiryRefusal::HopsOutside);
     }
-    if !(1..=32).contains(&enquiry.wanted) {
+    if enquiry.wanted < 1 || enquiry.wanted > 32 {
         return Err(EnquiryRefusal::WantedOutside);
     }
     if sizes.list < enquiry.wanted as usize {

@@ -10,8 +10,7 @@ use Rattle.length.specs.Standard.{standard}
 use Rattle.routes.specs.declared.checking.Sizes.{Sizes}
 use Rattle.routes.specs.Enquire.{early_checks, enquiry_answer, enquiry_told}
 use Rattle.routes.specs.Lent.{brought}
-use Rattle.routes.specs.Sizes.{size_checks}
-use Rattle.routes.proofs.Enquiries.{answered_work, checks_failed, checks_passed, early_passed, filled_holds, refused_early, same_checks}
+use Rattle.routes.proofs.Enquiries.{answered_work, early_passed, filled_holds, none_failed, one_failed, refused_early}
 use Rattle.routes.proofs.enquiring.enquire.Goals as goal
 
 pub returns-in_err-early_checks : goal.returns-in_err-early_checks
@@ -22,7 +21,7 @@ returns-in_err-early_checks g c =
     let sizes : Sizes = record { sites = c.from.result; list = length c.args.list.now; tables = c.shortest.result } in
     let sites = c.from.ensures ∙ c.sites.ensures ∙ ap (λ (n : Net). n.sites) c.of-copy.ensures in
     let told = enquiry_told c.in_err-early_checks.field-0.0 in
-    let failed = sym (same_checks model net b sizes sites refl c.shortest.ensures) ∙ checks_failed (first_failed (size_checks b.enquiry sizes)) told c.in_err-early_checks.ensures in
+    let failed = one_failed model net b sizes sites refl c.shortest.ensures told c.in_err-early_checks.ensures in
     let is = refused_early model net b told failed in
     let p = err_from_is_err_and c.from_residual.result c.from_residual.ensures.1 in
     rw (p.1, p.2)
@@ -38,15 +37,6 @@ returns-in_err-early_checks g c =
       same_hops = refl;
     })
 
-pub fill_tables-requires-clause-destination : goal.fill_tables-requires-clause-destination
-fill_tables-requires-clause-destination g c =
-    let model = g.K.Kind.model in
-    let net = copy_meaning c.of-copy.result in
-    let b = brought c.args.enquiry.now c.args.tables.now c.args.list.now (length c.args.notebook.now) in
-    let sizes : Sizes = record { sites = c.from.result; list = length c.args.list.now; tables = c.shortest.result } in
-    let none = sym (same_checks model net b sizes (c.from.ensures ∙ c.sites.ensures) refl c.shortest.ensures) ∙ checks_passed (first_failed (size_checks b.enquiry sizes)) c.in_ok-early_checks.ensures in
-    (early_passed model net b none).asked.destination_there
-
 pub invariant_of-search : goal.invariant_of-search
 invariant_of-search g c =
     let model = g.K.Kind.model in
@@ -54,7 +44,7 @@ invariant_of-search g c =
     let e = c.args.enquiry.now in
     let b = brought e c.args.tables.now c.args.list.now (length c.args.notebook.now) in
     let sizes : Sizes = record { sites = c.from.result; list = length c.args.list.now; tables = c.shortest.result } in
-    let none = sym (same_checks model net b sizes (c.from.ensures ∙ c.sites.ensures) refl c.shortest.ensures) ∙ checks_passed (first_failed (size_checks b.enquiry sizes)) c.in_ok-early_checks.ensures in
+    let none = none_failed model net b sizes (c.from.ensures ∙ c.sites.ensures) refl c.shortest.ensures c.in_ok-early_checks.ensures in
     let passed = early_passed model net b none in
     let filled = c.fill_tables.ensures in
     record {
@@ -75,7 +65,7 @@ returns g c =
     let same = c.of-copy.ensures in
     let b = brought c.args.enquiry.now c.args.tables.now c.args.list.now (length c.args.notebook.now) in
     let sizes : Sizes = record { sites = c.from.result; list = length c.args.list.now; tables = c.shortest.result } in
-    let none = sym (same_checks model copied b sizes (c.from.ensures ∙ c.sites.ensures) refl c.shortest.ensures) ∙ checks_passed (first_failed (size_checks b.enquiry sizes)) c.in_ok-early_checks.ensures in
+    let none = none_failed model copied b sizes (c.from.ensures ∙ c.sites.ensures) refl c.shortest.ensures c.in_ok-early_checks.ensures in
     let is = answered_work model copied b none in
     let filled = c.fill_tables.ensures in
     record {

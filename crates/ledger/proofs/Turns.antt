@@ -3,7 +3,8 @@ use Rattle.std.proofs.Common.{◌≡◌, ℕ, ◌-◌, ◌<◌, ◌≤◌, Bool,
 use native.Mathlib.Nat.{sub-zero}
 use Rattle.std.specs.List.{position_or_len}
 use Rattle.std.specs.Option.{option_map_or}
-use Rattle.std.proofs.lemmas.List.{set-get_or}
+use Rattle.std.proofs.lemmas.List.{get_or_default, set-get_or}
+use Rattle.std.proofs.lemmas.List.Quantifiers.{position-Some}
 use Rattle.std.proofs.lemmas.List.Sums.{fails_before_first, get_or-le-sum_by, sum_by-set}
 use Rattle.std.proofs.lemmas.Bool.{and_from, and_parts, both_ways, false≢true, ltb-false, not-false, or_parts}
 use Rattle.network.specs.Lists.{all_of, among, any_of}
@@ -111,25 +112,35 @@ pub record Stand (given : ℕ) (arcs : List ArcUse) (rows : List Row) : Type 0 w
   pub rows_fit : all_of (fits given) rows ≡ true
   pub sold_is : SoldIs arcs rows
 
--- the row at place k of a ledger is the row of a ticket
-module _ {N : Type 0} (l : Ledger N) (ticket k : ℕ) (room : k < length l.rows) (old : Row) (is : old ≡ get_or l.rows k Empty) (found : has_ticket ticket old ≡ true) where
-  found_at : has_ticket ticket (get_or l.rows k Empty) ≡ true
-  found_at = ap (has_ticket ticket) (sym is) ∙ found
+-- a row at place k is the row of a ticket
+pub record Found (rows : List Row) (ticket k : ℕ) (row : Row) : Type 0 where
+  pub room : k < length rows
+  pub is : row ≡ get_or rows k Empty
+  pub of_ticket : has_ticket ticket row ≡ true
+
+pub found_at : (rows : List Row) (ticket k : ℕ) (r : Row) → Some k ≡ position (has_ticket ticket) rows → Found rows ticket k (get_or rows k r)
+found_at rows ticket k r e =
+    let first = position-Some (has_ticket ticket) rows k r (sym e) in
+    record { room = first.0; is = get_or_default rows k r Empty first.0; of_ticket = first.1 }
+
+module _ {N : Type 0} (l : Ledger N) (ticket k : ℕ) (old : Row) (found : Found l.rows ticket k old) where
+  at_empty : has_ticket ticket (get_or l.rows k Empty) ≡ true
+  at_empty = ap (has_ticket ticket) (sym found.is) ∙ found.of_ticket
 
   pub one_asked : (call : RowCall) → any_of (asked call ticket) (entries_of l.rows) ≡ is_some (row_next old call)
-  one_asked call = one_passes ticket (asked call ticket) (asked_like call ticket) l.rows k room found_at (l.one_row_each ticket) ∙ (ap (row_test (asked call ticket)) (sym is) ∙ sym (allowed_is ticket old call found))
+  one_asked call = one_passes ticket (asked call ticket) (asked_like call ticket) l.rows k found.room at_empty (l.one_row_each ticket) ∙ (ap (row_test (asked call ticket)) (sym found.is) ∙ sym (allowed_is ticket old call found.of_ticket))
 
   -- it stays as it is
   pub kept_stand : (next : Row) → next ≡ old → Stand l.given l.arcs (set l.rows k next)
-  kept_stand next e = rw (e, is, set-get_or l.rows k Empty) (record { one_row_each = l.one_row_each; rows_fit = l.rows_fit; sold_is = l.sold_is })
+  kept_stand next e = rw (e, found.is, set-get_or l.rows k Empty) (record { one_row_each = l.one_row_each; rows_fit = l.rows_fit; sold_is = l.sold_is })
 
   pub kept_tally : (next : Row) → next ≡ old → tally_with l l.given (set l.rows k next) ≡ ledger_tally l
-  kept_tally next e = ap (tally_with l l.given) (ap (set l.rows k) (e ∙ is) ∙ set-get_or l.rows k Empty)
+  kept_tally next e = ap (tally_with l l.given) (ap (set l.rows k) (e ∙ found.is) ∙ set-get_or l.rows k Empty)
 
   -- it turns booked
   module _ (c : Circuit) (held : old ≡ Held c) where
     same_sum : (value : Row → ℕ) → value (Booked c) ≡ value (Held c) → sum_by value (set l.rows k (Booked c)) ≡ sum_by value l.rows
-    same_sum value e = let was = ap value (sym is ∙ held) in omega (arith, sum_by-set value l.rows k (Booked c) Empty room)
+    same_sum value e = let was = ap value (sym found.is ∙ held) in omega (arith, sum_by-set value l.rows k (Booked c) Empty found.room)
 
     booked_one : OneRowEach (set l.rows k (Booked c))
     booked_one t = omega (arith, same_sum (λ r. cond (has_ticket t r) 1 0) refl, l.one_row_each t)
@@ -138,35 +149,35 @@ module _ {N : Type 0} (l : Ledger N) (ticket k : ℕ) (room : k < length l.rows)
     booked_stand =
         record {
           one_row_each = booked_one;
-          rows_fit = all_put (fits l.given) l.rows k (Booked c) (ap (fits l.given) (sym held ∙ is) ∙ all_at (fits l.given) l.rows Empty k room l.rows_fit) l.rows_fit;
+          rows_fit = all_put (fits l.given) l.rows k (Booked c) (ap (fits l.given) (sym held ∙ found.is) ∙ all_at (fits l.given) l.rows Empty k found.room l.rows_fit) l.rows_fit;
           sold_is = λ arc la. l.sold_is arc la ∙ sym (same_sum (width_on arc) refl);
         }
 
     booked_tally : tally_with l l.given (set l.rows k (Booked c)) ≡ confirm_next (ledger_tally l) ticket
-    booked_tally = ap (tally_of (λ i. (use_at l.arcs i).closed) l.given) (sym (book_entries ticket c (sym (ap (has_ticket ticket) held) ∙ found) l.rows k room (sym is ∙ held) (l.one_row_each ticket)))
+    booked_tally = ap (tally_of (λ i. (use_at l.arcs i).closed) l.given) (sym (book_entries ticket c (sym (ap (has_ticket ticket) held) ∙ found.of_ticket) l.rows k found.room (sym found.is ∙ held) (l.one_row_each ticket)))
 
   -- it turns empty
   emptied_one : OneRowEach (set l.rows k Empty)
-  emptied_one t = omega (arith, sum_by-set (λ r. cond (has_ticket t r) 1 0) l.rows k Empty Empty room, l.one_row_each t)
+  emptied_one t = omega (arith, sum_by-set (λ r. cond (has_ticket t r) 1 0) l.rows k Empty Empty found.room, l.one_row_each t)
 
   taken_sold : (arc : ℕ) → arc < 256 → width_on arc old ≤ (use_at l.arcs arc).sold
-  taken_sold arc la = omega (arith, ap (width_on arc) is, get_or-le-sum_by (width_on arc) l.rows k Empty room, l.sold_is arc la)
+  taken_sold arc la = omega (arith, ap (width_on arc) found.is, get_or-le-sum_by (width_on arc) l.rows k Empty found.room, l.sold_is arc la)
 
   emptied_stand : (less : List ArcUse) → ((arc : ℕ) → arc < 256 → (use_at less arc).sold ≡ (use_at l.arcs arc).sold - width_on arc old) → Stand l.given less (set l.rows k Empty)
   emptied_stand less h =
       record {
         one_row_each = emptied_one;
         rows_fit = all_put (fits l.given) l.rows k Empty refl l.rows_fit;
-        sold_is = λ arc la. omega (arith, h arc la, ap (width_on arc) is, l.sold_is arc la, sum_by-set (width_on arc) l.rows k Empty Empty room);
+        sold_is = λ arc la. omega (arith, h arc la, ap (width_on arc) found.is, l.sold_is arc la, sum_by-set (width_on arc) l.rows k Empty Empty found.room);
       }
 
   emptied_tally : (less : List ArcUse) → ((arc : ℕ) → (use_at less arc).closed ≡ (use_at l.arcs arc).closed) → tally_of (λ i. (use_at less i).closed) l.given (entries_of (set l.rows k Empty)) ≡ strike_next (ledger_tally l) ticket
   emptied_tally less same =
-      same_marks _ _ l.given (entries_of (set l.rows k Empty)) same ∙ ap (tally_of (λ i. (use_at l.arcs i).closed) l.given) (sym (strike_entries ticket l.rows k room found_at (l.one_row_each ticket)))
+      same_marks _ _ l.given (entries_of (set l.rows k Empty)) same ∙ ap (tally_of (λ i. (use_at l.arcs i).closed) l.given) (sym (strike_entries ticket l.rows k found.room at_empty (l.one_row_each ticket)))
 
   -- what is known of the circuit in it
   pub circuit_stands : (c : Circuit) → Some c ≡ circuit_in old → EntryFits l.given (entry_of false c)
-  circuit_stands c e = entry_says l.given (entry_of false c) (ap (λ o. option_map_or (λ c. entry_fits l.given (entry_of false c)) o true) e ∙ (sym (circuit_fits_in l.given old) ∙ (ap (fits l.given) is ∙ all_at (fits l.given) l.rows Empty k room l.rows_fit)))
+  circuit_stands c e = entry_says l.given (entry_of false c) (ap (λ o. option_map_or (λ c. entry_fits l.given (entry_of false c)) o true) e ∙ (sym (circuit_fits_in l.given old) ∙ (ap (fits l.given) found.is ∙ all_at (fits l.given) l.rows Empty k found.room l.rows_fit)))
 
   pub circuit_sold : (c : Circuit) → Some c ≡ circuit_in old → (arc : ℕ) → arc < 256 → among arc c.arcs ≡ true → c.width ≤ (use_at l.arcs arc).sold
   circuit_sold c e arc la m =
@@ -177,7 +188,7 @@ module _ {N : Type 0} (l : Ledger N) (ticket k : ℕ) (room : k < length l.rows)
   pub turn_booked : (call : RowCall) (next : Row) → is_some (row_next old call) ≡ true → next ≡ unwrap_or (row_next old call) old → in_use next ≡ true
       → Stand l.given l.arcs (set l.rows k next) × (tally_with l l.given (set l.rows k next) ≡ asked_next call (ledger_tally l) ticket)
   turn_booked call next some e used =
-      elim (turned ticket old call next found some e) [
+      elim (turned ticket old call next found.of_ticket some e) [
         | inl b ↦ (rw b.4 (booked_stand b.0 b.1), ap (λ r. tally_with l l.given (set l.rows k r)) b.4 ∙ (booked_tally b.0 b.1 ∙ ap (λ call. asked_next call (ledger_tally l) ticket) (sym b.3)))
         | inr z ↦ absurd (both_ways _ (ap in_use z.0) used)
       ]
@@ -195,7 +206,7 @@ module _ {N : Type 0} (l : Ledger N) (ticket k : ℕ) (room : k < length l.rows)
 
     pub turn_emptied : Stand l.given less (set l.rows k next) × (tally_of (λ i. (use_at less i).closed) l.given (entries_of (set l.rows k next)) ≡ asked_next call (ledger_tally l) ticket)
     turn_emptied =
-        elim (turned ticket old call next found some e) [
+        elim (turned ticket old call next found.of_ticket some e) [
           | inl b ↦ absurd (both_ways _ unused (ap in_use b.4))
           | inr z ↦ (rw z.0 (emptied_stand less less_sold), ap (λ r. tally_of (λ i. (use_at less i).closed) l.given (entries_of (set l.rows k r))) z.0 ∙ (emptied_tally less closed ∙ sym (z.1 (ledger_tally l))))
         ]

@@ -58,7 +58,7 @@ has_ticket ticket = row_test (λ x. x.ticket == ticket)
 
 -- What a call asks of the tally
 
--- the entry is one of the ticket that allows the call
+-- the entry has the ticket, and the call may be put to it
 abbrev pub asked : RowCall → ℕ → Entry → Bool
 asked (Hold circuit) ticket = λ _. false
 asked Confirm ticket = is_held ticket

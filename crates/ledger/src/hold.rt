@@ -48,7 +48,7 @@ impl<N: Network> Ledger<N> {
         if !sites_apart(&self.network, arcs) {
             return Err(HoldRefusal::SiteTwice);
         }
-        // nor one of a capacity above 255
+        // no network has an arc of a capacity above 255
         let width = u8::try_from(width).map_err(|_| HoldRefusal::NoRoom)?;
         if !have_room(self, arcs, width) {
             return Err(HoldRefusal::NoRoom);

@@ -56,7 +56,8 @@ impl Row {
     }
 }
 
-// Puts a call to a row, and answers whether the row allows it; if not, the row stays as it is.
+// Puts a call to a row, and answers whether the row allows it; if not, the row stays as it is. By a rule of the project one
+// match on the row and the call together changes the row in place, so the calls are an enum.
 pub(super) fn apply(row: &mut Row, call: RowCall) -> bool
     ensures answer { result ≡ is_some (row_next row.old call) }
     ensures row { row.new ≡ unwrap_or (row_next row.old call) row.old }

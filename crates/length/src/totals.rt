@@ -9,10 +9,10 @@ use super::kind::Kind;
 use super::refusals::LeastTotalsRefusal;
 use network::{Arc, Network, list_arcs};
 
-// What a round of tries goes by: the kind of length, the width that an arc must have room for, how many sites there are, and
+// What rounds of tries go by: the kind of length, the width that an arc must have room for, how many sites there are, and
 // the arcs, which begin and end at these sites.
 #[derive(Drop)]
-struct Round<'a, K> {
+struct Rounds<'a, K> {
     kind: &'a K,
     width: u32,
     sites: usize,
@@ -20,7 +20,7 @@ struct Round<'a, K> {
     ghost ends_within: { All (EndsWithin sites) arcs.now },
 }
 
-impl<K: Kind> Round<'_, K> {
+impl<K: Kind> Rounds<'_, K> {
     // Whether a length is shorter than what stands in a table.
     fn is_shorter(&self, length: K::Length, here: Option<K::Length>) -> bool
         ensures { result ≡ shortens (K.Kind.model self.now.kind.now) here length }
@@ -108,15 +108,15 @@ pub fn least_totals<N: Network, K: Kind>(
     if table.len() < sites {
         return Err(LeastTotalsRefusal::TableTooShort);
     }
-    // Fixed memory, for as many arcs as a network may have.
+    // A table with its count, since no heap memory is used: it has room for as many arcs as a network may have.
     let mut arcs = [Arc::default(); 256];
     let count = list_arcs(network, &mut arcs);
-    let round = Round {
+    let rounds = Rounds {
         kind,
         width,
         sites,
         arcs: &arcs[..count],
     };
-    round.fill_table(site, table);
+    rounds.fill_table(site, table);
     Ok(())
 }

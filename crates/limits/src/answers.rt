@@ -1,5 +1,5 @@
-// Refusals as this program shows them. `pathcomputer` has a ':' for the ',' and shares no crate with this program but the
-// library, which prints nothing.
+// Refusals as this program shows them. `pathcomputer` has a ':' for the ','; one wrapper in the library that takes the mark
+// from each program would be no plainer.
 use network::Refusal;
 use std::fmt;
 

@@ -4,7 +4,8 @@ ghost use Rattle.network.specs.Numbers.{with_number};
 
 use std::marker::Model;
 
-// At most 15 arc numbers, in order. Contracts see them as a list.
+// At most 15 arc numbers, in order. Contracts see them as a list. The count stands beside places of a fixed number, since the
+// lines of a lent notebook and the rows of a ledger are `Copy` and take no heap memory.
 #[derive(Clone, Copy)]
 pub struct ArcNumbers {
     // the numbers, and 0 in the places that hold none

@@ -1,5 +1,5 @@
 // Ring plans as networks.
-ghost use Rattle.std.specs.Prelude.{◌≡◌, ◌<◌, ◌≤◌};
+ghost use Rattle.std.specs.Prelude.{◌≡◌, ◌<◌, ◌≤◌, Some, None, if◌then◌else◌};
 ghost use Rattle.network.specs.Checks.{outcome};
 ghost use Rattle.network.specs.Ring.{ring_answer, ring_told, ring_arc, next_site, FiguresFit, over_limit};
 ghost use Rattle.network.specs.RingPlans.{ring_meaning};
@@ -42,6 +42,15 @@ fn arc_between(figures: Figures, from: u8, to: u8) -> Arc
         jitter: figures.jitter as u16,
         charge: figures.charge as u16,
         capacity: figures.capacity as u8,
+    }
+}
+
+impl Figures {
+    // The arc between two sites with these figures, or none where one is over its limit.
+    pub fn arc(self, from: u8, to: u8) -> Option<Arc>
+        ensures { result ≡ (if over_limit self then None else Some (ring_arc self from to)) }
+    {
+        (!over_limit(self)).then(|| arc_between(self, from, to))
     }
 }
 

@@ -1,6 +1,6 @@
 // The order book: which order is at hand, what is said of it, and what was done so far.
 use super::failure::OrdersFailure;
-use super::order::{NumberedOrder, Order, OrderFault, Subject};
+use super::order::{LINES, NumberedOrder, Order, OrderFault, Subject};
 use super::output::Output;
 use desk::Memory;
 use length::{RowRefusal, StandardKind};
@@ -11,14 +11,12 @@ use std::collections::VecDeque;
 use std::fmt;
 use std::vec::IntoIter;
 
-// How many lines of a notebook count, and how many places a table and a list have.
-const LINES: u32 = 4096;
-
+// How many places a table and a list have.
 const SITES: usize = 64;
 
 const ROWS: usize = 32;
 
-// The routes of an answered enquiry that are still to be said: each is once its length is known.
+// The routes of an answered enquiry that are still to be said, each once its length is known.
 #[derive(Drop)]
 struct Listing {
     kind: StandardKind,
@@ -115,7 +113,7 @@ impl OrderBook {
         self.output.given(new_memory(self.heap, lines))
     }
 
-    // The next route to be said, as what its length is asked by: a kind and its arcs.
+    // What the length of the next route to be said is asked by: a kind, and the arcs of the route.
     pub(super) fn next_route(&mut self) -> Option<(StandardKind, Vec<u32>)> {
         if self.output.has_failed() {
             return None;
@@ -140,13 +138,13 @@ impl OrderBook {
         Some(order)
     }
 
-    // Says that the order at hand is granted.
+    // Counts the order at hand as granted, and says what came of it.
     pub(super) fn granted<D: fmt::Display + Drop>(&mut self, what: D) {
         count_one(&mut self.account.granted);
         self.output.say(what);
     }
 
-    // Says why the order at hand is not carried out.
+    // Counts the order at hand as not carried out, and says why.
     pub(super) fn not_carried_out<D: fmt::Display + Drop>(&mut self, why: D) {
         count_one(&mut self.account.not_carried_out);
         self.output.say(why);
@@ -165,7 +163,7 @@ impl OrderBook {
         self.granted(format_args!("{subject} {what}"));
     }
 
-    // Says what became of it, or that the order is refused.
+    // Says what became of the ticket or the arc, or that the order is refused.
     pub(super) fn done_unless_refused<R: Refusal>(&mut self, answer: &Result<(), R>, what: &str) {
         match answer {
             Ok(()) => self.done(what),

@@ -5,6 +5,9 @@ use std::alloc::AllocError;
 use std::fmt;
 use thiserror::Error;
 
+// How many lines of a notebook count, and how many it has where an enquiry names no number.
+pub(super) const LINES: u32 = 4096;
+
 // What one line of a text of orders asks.
 #[derive(Drop)]
 pub enum Order {

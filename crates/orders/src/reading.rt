@@ -1,13 +1,10 @@
 // Orders read from text: one on a line; what follows a '#' is a comment, and blank lines are passed over.
-use super::order::{NumberedOrder, Order, OrderFault};
+use super::order::{LINES, NumberedOrder, Order, OrderFault};
 use super::text::words_of;
 use length::StandardKind;
 use routes::{Enquiry, Limits};
 use std::alloc::{AllocError, Global};
 use std::str::SplitWhitespace;
-
-// The notebook that an enquiry has where it names none.
-const NOTEBOOK: u32 = 4096;
 
 fn read_number(word: &str) -> Result<u32, OrderFault> {
     word.parse().map_err(|_| OrderFault::NotANumber)
@@ -36,7 +33,7 @@ fn number_after(words: &mut SplitWhitespace<'_>, label: &str) -> Result<u32, Ord
     next_number(words)
 }
 
-// By a match: the kind and the text are types of other crates, so that neither `TryFrom` nor `FromStr` can be written here.
+// A match here and no `FromStr` in the crate of the kinds: the words are those of orders, of which that crate knows nothing.
 fn read_kind(word: &str) -> Result<StandardKind, OrderFault> {
     Ok(match word {
         "weight" => StandardKind::Weight,
@@ -75,7 +72,7 @@ fn read_enquiry(words: &mut SplitWhitespace<'_>) -> Result<Enquiry<StandardKind>
 // How many lines the notebook has, at the end of an enquiry.
 fn read_notebook(words: &mut SplitWhitespace<'_>) -> Result<u32, OrderFault> {
     match words.next() {
-        None => Ok(NOTEBOOK),
+        None => Ok(LINES),
         Some("notebook") => next_number(words),
         Some(_) => Err(OrderFault::WrongWord),
     }

@@ -5,7 +5,7 @@ use super::usage::USAGE;
 use length::{StandardKind, least_totals};
 use network::{Figures, Headroom, Network, RingPlan};
 use orders::{carry_out as carry_out_orders, read_orders};
-use sheet::{Sheet, write_sheet};
+use sheet::{Sheet, size_of_sheet, write_sheet};
 use std::{env, fs};
 
 // Carries out the command that the program's arguments give.
@@ -32,14 +32,22 @@ pub fn carry_out(rt: &HostRuntime) -> Result<(), Failure> {
     }
 }
 
+// The sheet in a file.
+fn read_sheet(rt: &HostRuntime, path: &str) -> Result<Sheet, Failure> {
+    let bytes = fs::read(rt, path)?;
+    Ok(Sheet::read(bytes.as_slice())?)
+}
+
 // Writes the sheet of a network to a file, and says so.
 fn save<N: Network>(rt: &HostRuntime, network: &N, path: &str) -> Result<(), Failure> {
-    let sites = network.sites();
     let arcs = network.arcs();
-    let mut buffer = vec![in rt.alloc(); 0u8; 2 + 8 * usize::from(arcs)]?;
+    let mut buffer = vec![in rt.alloc(); 0u8; size_of_sheet(u32::from(arcs))]?;
     let size = write_sheet(network, buffer.as_mut_slice())?;
     fs::write(rt, path, buffer.as_slice())?;
-    println!(rt; "wrote {path}: {sites} sites, {arcs} arcs, {size} bytes")?;
+    println!(rt;
+        "wrote {path}: {} sites, {arcs} arcs, {size} bytes",
+        network.sites()
+    )?;
     Ok(())
 }
 
@@ -51,8 +59,7 @@ fn encode(rt: &HostRuntime, table: &str, path: &str) -> Result<(), Failure> {
 
 // Prints a sheet as a table.
 fn decode(rt: &HostRuntime, path: &str) -> Result<(), Failure> {
-    let bytes = fs::read(rt, path)?;
-    let sheet = Sheet::read(bytes.as_slice())?;
+    let sheet = read_sheet(rt, path)?;
     let sites = sheet.sites();
     let arcs = sheet.arcs();
     println!(rt; "sites {sites}")?;
@@ -64,7 +71,7 @@ fn decode(rt: &HostRuntime, path: &str) -> Result<(), Failure> {
     }
     println!(rt;
         "# read {path}: {sites} sites, {arcs} arcs, {} bytes",
-        bytes.len()
+        size_of_sheet(u32::from(arcs))
     )?;
     Ok(())
 }
@@ -97,14 +104,14 @@ const KINDS: [StandardKind; 6] = [
 
 // Prints the least totals to a destination at a width, site by site.
 fn totals(rt: &HostRuntime, path: &str, destination: u32, width: u32) -> Result<(), Failure> {
-    let bytes = fs::read(rt, path)?;
-    let sheet = Sheet::read(bytes.as_slice())?;
+    let sheet = read_sheet(rt, path)?;
     let mut columns = [[None; 64]; 6];
     for (column, kind) in columns.iter_mut().zip(&KINDS) {
         least_totals(&sheet, kind, destination, width, column)?;
     }
     println!(rt; "site  weight   delay  jitter  charge    hops   width")?;
     let sites = sheet.sites();
+    // by site, since each column is a table by site
     for site in 0..sites {
         print_row(rt, site, &columns)?;
     }
@@ -113,7 +120,7 @@ fn totals(rt: &HostRuntime, path: &str, destination: u32, width: u32) -> Result<
     Ok(())
 }
 
-// Prints the least totals of one site: of each column, a table by site, the place of the site.
+// Prints the least totals of one site.
 fn print_row(rt: &HostRuntime, site: u8, columns: &[[Option<u32>; 64]; 6]) -> Result<(), Failure> {
     print!(rt; "{site:>4}")?;
     for column in columns {
@@ -128,8 +135,7 @@ fn print_row(rt: &HostRuntime, site: u8, columns: &[[Option<u32>; 64]; 6]) -> Re
 
 // Carries out the orders of a text on a new ledger over the network of a sheet, or over headroom on it.
 fn orders(rt: &HostRuntime, path: &str, text: &str, reserve: Option<u32>) -> Result<(), Failure> {
-    let bytes = fs::read(rt, path)?;
-    let sheet = Sheet::read(bytes.as_slice())?;
+    let sheet = read_sheet(rt, path)?;
     let text = fs::read_to_string(rt, text)?;
     let list = read_orders(rt.alloc(), text.as_str())?;
     match reserve {

@@ -7,7 +7,7 @@ ghost use Rattle.network.specs.Fits.{all_fit};
 
 use super::failure::Fault;
 use super::table::Table;
-use network::{Arc, Network};
+use network::{Arc, Figures, Network};
 use std::alloc::Global;
 
 // The seven figures of an arc as they stand in a line: from, to, weight, delay, jitter, charge, capacity.
@@ -26,18 +26,16 @@ fn arc_within(sites: u8, figures: ArcFigures) -> Result<Arc, Fault>
     if from == to {
         return Err(Fault::SameSite);
     }
-    if weight > 4095 || delay > 4095 || jitter > 1023 || charge > 1023 || capacity > 255 {
-        return Err(Fault::FigureOverLimit);
-    }
-    Ok(Arc {
-        from: from as u8,
-        to: to as u8,
-        weight: weight as u16,
-        delay: delay as u16,
-        jitter: jitter as u16,
-        charge: charge as u16,
-        capacity: capacity as u8,
-    })
+    let figures = Figures {
+        weight,
+        delay,
+        jitter,
+        charge,
+        capacity,
+    };
+    figures
+        .arc(from as u8, to as u8)
+        .ok_or(Fault::FigureOverLimit)
 }
 
 impl Table {

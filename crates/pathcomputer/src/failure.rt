@@ -37,7 +37,7 @@ pub enum Fault {
     NoMemory(#[from(alloc)] AllocError),
 }
 
-// A refusal as the program says it: the number of the check that failed, the bit of a sheet where it did, if there is one,
+// A refusal as this program says it, with a ':' where `limits` has a ',': the number of the check that failed, the bit of a sheet where it did, if there is one,
 // and the reason.
 #[derive(Drop)]
 struct Refused<'a, R> {

@@ -21,10 +21,12 @@ fn fill_one<Q, K: Kind>(
     requires table { (copy_meaning network.now).sites ≤ length table.old }
     ensures { table.new ≡ table_after (K.Kind.model kind.now) (copy_meaning network.now) enquiry.now.width enquiry.now.destination table.old }
 {
+    // not refused, since the checks of the enquiry have passed
     let _ = least_totals(network, kind, enquiry.destination, enquiry.width, table);
 }
 
-// The tables that a caller lends: least totals in the enquiry's kind, and of the four figures that have limits.
+// The tables that a caller lends: least totals in the enquiry's kind, and of the four figures that have limits. Who owns such
+// tables has a struct of its own: one for both would take a type parameter for each kind of field and read no plainer.
 #[derive(Drop)]
 pub struct LentTables<'a, L> {
     pub length: &'a mut [Option<L>],

@@ -34,7 +34,7 @@ impl<L: Copy> Line<L> {
     }
 }
 
-// A notebook, of which the first lines are used.
+// A caller's notebook, and how many of its first lines are used: the lines are lent, so that they cannot be a `Vec`.
 #[derive(Drop)]
 pub(super) struct Notebook<'a, L> {
     pub(super) lines: &'a mut [Line<L>],

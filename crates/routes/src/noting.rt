@@ -7,7 +7,7 @@ ghost use Rattle.routes.specs.Work.{marked, notebook_after, used_after};
 use super::line::{Line, Notebook};
 
 impl<'a, L: Copy> Notebook<'a, L> {
-    // None of the lines are used.
+    // A notebook in these lines, of which none is used.
     pub(super) fn of(lines: &'a mut [Line<L>]) -> Notebook<'a, L>
         ensures lines { result.lines.now ≡ lines.old }
         ensures used { result.used ≡ 0 }
@@ -23,7 +23,7 @@ impl<'a, L: Copy> Notebook<'a, L> {
         &lines[..self.used]
     }
 
-    // Writes a line behind those used, if there is one to write; none where no line is left for it.
+    // Writes a line behind those used, if there is one to write; answers none where all lines are used.
     pub(super) fn note(&mut self, line: Option<Line<L>>) -> Option<()>
         ensures used { option_map (λ _. self.new.used) result ≡ used_after line self.old.used (length self.old.lines.now) }
         ensures lines { self.new.lines.now ≡ notebook_after line self.old.used (length self.old.lines.now) self.old.lines.now }

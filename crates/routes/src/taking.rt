@@ -22,9 +22,10 @@ pub(super) fn take_lines<K: Kind>(
 {
     let enquiry = search.enquiry;
     let mut finished = ArrayVec::new();
-    // how many lines were taken, by which the loop is seen to end
+    // how many lines were taken, by which the loop is seen to end: to count the marks in the notebook would be no plainer
     let mut done = 0usize;
     notebook.note(search.start())?;
+    // the label is the project's rule for this work
     'taking: while let Some(at) = next_line(&enquiry.kind, notebook.lines_used()) {
         let line = notebook.mark_taken(at);
         done += 1;

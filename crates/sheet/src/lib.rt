@@ -12,5 +12,5 @@ mod words;
 pub mod writing;
 
 pub use refusals::{ReadRefusal, WriteRefusal};
-pub use sheet::Sheet;
+pub use sheet::{Sheet, size_of_sheet};
 pub use writing::write_sheet;

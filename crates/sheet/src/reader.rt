@@ -28,7 +28,7 @@ impl<'a> BitReader<'a> {
     }
 
     // Whether so many bits are there from the position on. Added in 64 bits, where the sum always fits: with a sum that is
-    // checked in 32 bits a sheet takes a quarter longer to read.
+    // checked in 32 bits a sheet takes a quarter longer to write and read.
     fn has(&self, width: u32) -> bool
         ensures { result ≡ bits_there self.now.bytes.now self.now.position width }
     {

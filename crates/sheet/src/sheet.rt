@@ -7,7 +7,7 @@ ghost use Rattle.sheet.specs.Layout.{kept_bytes, net_in, read_answer, sheet_size
 pub(super) const MOST_BYTES: usize = 2050;
 
 // How many bytes a sheet of so many arcs has.
-pub(super) fn size_of_sheet(arcs: u32) -> usize
+pub fn size_of_sheet(arcs: u32) -> usize
     ensures { result ≡ sheet_size arcs }
 {
     2 + 8 * arcs as usize

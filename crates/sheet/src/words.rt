@@ -6,7 +6,7 @@ ghost use Rattle.sheet.specs.Steps.{word_bytes};
 
 use network::Arc;
 
-// The number of an arc.
+// An arc as a number of 64 bits.
 #[derive(Clone, Copy)]
 pub(super) struct ArcWord(u64);
 
@@ -55,7 +55,7 @@ impl From<ArcWord> for Arc {
 impl From<Arc> for ArcWord {
     ghost from_gives = { λ arc word. word.0 ≡ arc_word arc };
 
-    // Of each field the bits that it has there.
+    // Of each field only the bits that its place in the word has room for.
     fn from(arc: Arc) -> ArcWord {
         let from = u64::from(arc.from % 64);
         let to = from * 64 + u64::from(arc.to % 64);

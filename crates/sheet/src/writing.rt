@@ -37,7 +37,7 @@ fn put_arcs<N: Network>(network: &N, buffer: &mut [u8])
 {
     for number in 0..network.arcs() {
         let arc = network.arc(u32::from(number)).unwrap();
-        put_word(buffer, 2 + 8 * usize::from(number), ArcWord::from(arc));
+        put_word(buffer, size_of_sheet(u32::from(number)), ArcWord::from(arc));
     }
 }
 

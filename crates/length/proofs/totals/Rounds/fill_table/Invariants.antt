@@ -1,7 +1,7 @@
 -- The rounds that are left make of the table what all rounds make of the first table.
 use Rattle.std.proofs.Common.{◌≡◌, ◌-◌}
 use Rattle.length.specs.Rounds.{first_table, rounds}
-use Rattle.length.proofs.totals.Round.fill_table.Given as goal
+use Rattle.length.proofs.totals.Rounds.fill_table.Given as goal
 
 abbrev pub invariant-loop-round : goal.invariant-loop-round
 invariant-loop-round g l =

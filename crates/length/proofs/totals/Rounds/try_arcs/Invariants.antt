@@ -1,7 +1,7 @@
 -- The arcs passed are tried; while nothing changed, the table is as it was.
 use Rattle.std.proofs.Common.{◌≡◌, false, take}
 use Rattle.length.specs.Rounds.{all_tried}
-use Rattle.length.proofs.totals.Round.try_arcs.Given as goal
+use Rattle.length.proofs.totals.Rounds.try_arcs.Given as goal
 
 abbrev pub invariant-loop-arc : goal.invariant-loop-arc
 invariant-loop-arc g l = record {

@@ -15,7 +15,8 @@ use super::row::{Circuit, RowCall, apply, empty_row};
 use super::slip::Slip;
 use network::{ArcNumbers, Network};
 
-// The numbers of a route as a circuit has them, or none where there are more than 15 or one is above 255.
+// The numbers of a route as a circuit has them, or none where there are more than 15 or one is above 255. No `TryFrom`, which
+// only the crate of the type could have.
 fn numbers_of(arcs: &[u32]) -> Option<ArcNumbers>
     ensures { result ≡ (if nat_le (length arcs.now) 15 && all_of (λ i. nat_lt i 256) arcs.now then Some arcs.now else None) }
 {

@@ -1,5 +1,5 @@
 // Least totals over all walks to a destination, in any kind of length.
-ghost use Rattle.std.specs.Prelude.{◌≡◌, ◌<◌, ◌≤◌, true, false, ◌++◌, length, drop, replicate, is_ok, None};
+ghost use Rattle.std.specs.Prelude.{◌≡◌, ◌<◌, ◌≤◌, true, false, length, is_ok, None};
 ghost use Rattle.std.specs.List.{All};
 ghost use Rattle.network.specs.Checks.{outcome};
 ghost use Rattle.length.specs.Least.{HoldsLeast, least_totals_answer, least_totals_table, least_totals_told};

@@ -1,6 +1,6 @@
 // Headroom: a network with a reserve taken off every capacity.
 ghost use Rattle.std.specs.Prelude.{◌≡◌, ◌-◌};
-ghost use Rattle.network.specs.Headroom.{with_headroom, headroom_meaning, less};
+ghost use Rattle.network.specs.Headroom.{with_headroom, headroom_meaning};
 ghost use Rattle.network.specs.Reserves.{headroom_formed};
 
 use super::arc::{Arc, Network};

@@ -1,5 +1,5 @@
 // Arc numbers in a row, as a partial route or a circuit has them: at most 15, in memory of a fixed size.
-ghost use Rattle.std.specs.Prelude.{◌≡◌, ◌-◌, ◌<◌, ◌∷◌, [], ◌++◌, length, replicate};
+ghost use Rattle.std.specs.Prelude.{◌≡◌, ◌-◌, [], ◌++◌, length, replicate};
 ghost use Rattle.network.specs.Numbers.{with_number};
 
 use std::marker::Model;

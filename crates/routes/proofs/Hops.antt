@@ -1,4 +1,4 @@
--- An admissible partial route that has not arrived has fewer than 15.
+-- An admissible partial route that has not arrived has fewer than 15 arcs.
 use Rattle.std.proofs.Common.{◌≡◌, ℕ, ◌<◌, ◌≤◌, true, false, eqb, List, [], ◌∷◌, length, is_some, Some, None, Option, refl, subst, arith}
 use borrow.Author.Tests.{clash}
 use Rattle.std.specs.Option.{option_map}

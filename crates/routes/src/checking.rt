@@ -28,6 +28,7 @@ pub(super) fn early_checks<K>(enquiry: &Enquiry<K>, sizes: Sizes) -> Result<(), 
     if enquiry.width == 0 {
         return Err(EnquiryRefusal::WidthZero);
     }
+    // by two comparisons: the proof of `contains` is found only with the search's full limits
     if enquiry.limits.hops < 1 || enquiry.limits.hops > 15 {
         return Err(EnquiryRefusal::HopsOutside);
     }

@@ -1,5 +1,5 @@
 // The lines of a search: that of the empty partial route, and how a partial route becomes one arc longer.
-ghost use Rattle.std.specs.Prelude.{◌≡◌, ◌+◌, true, false, cond, None, Some, []};
+ghost use Rattle.std.specs.Prelude.{◌≡◌, true, false, cond, None, Some, []};
 ghost use Rattle.network.specs.Copies.{copy_meaning};
 ghost use Rattle.network.specs.Lists.{among};
 ghost use Rattle.length.specs.Walks.{sites_along};

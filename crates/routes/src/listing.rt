@@ -5,7 +5,7 @@ ghost use Rattle.routes.specs.Rows.{PlacesInside, row_on, rows_at};
 use super::enquiry::RouteRow;
 use super::line::Line;
 
-// The row of a line.
+// The row of a line. No `From`, which would be open to callers, to whom a line shows nothing.
 fn row_of<L: Copy>(line: &Line<L>) -> RouteRow
     ensures { result ≡ row_on line.now }
 {

@@ -1,6 +1,6 @@
 -- Each turn is answered as the tally answers, so the law holds of all of them.
 use Rattle.std.proofs.Common.{◌≡◌, length, refl, ◌∙◌, subst, inl, inr, arith}
-use Rattle.ledger.specs.Ledgers.{ledger_tally, network_below}
+use Rattle.ledger.specs.Ledgers.{network_below}
 use Rattle.desk.specs.Served.{Served}
 use Rattle.desk.proofs.SoFar.{none_yet, one_more, served}
 use Rattle.desk.proofs.serving.serve.Goals as goal

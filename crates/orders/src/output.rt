@@ -24,7 +24,9 @@ impl Output {
     }
 
     // Whether something failed.
-    pub(super) fn has_failed(&self) -> bool {
+    pub(super) fn has_failed(&self) -> bool
+        ensures { result ≡ is_some self.now.failure }
+    {
         self.failure.is_some()
     }
 

@@ -1,5 +1,5 @@
 // The slips in hand.
-ghost use Rattle.std.specs.Prelude.{◌≡◌, true, [], ◌∷◌, ◌++◌, is_ok, ◌==◌};
+ghost use Rattle.std.specs.Prelude.{◌≡◌, true, [], ◌∷◌, ◌++◌, is_ok, ◌==◌, length, min};
 ghost use Rattle.std.specs.List.{position};
 ghost use Rattle.ledger.specs.Ledgers.{ledger_tally};
 ghost use Rattle.ledger.specs.Slips.{ticket_on};
@@ -58,9 +58,10 @@ impl<N: Network> Pocket<N> {
         Some(self.slips.remove(place))
     }
 
-    // Lets all slips go that are left, and answers how many there were.
+    // Lets all slips go that are left, and answers how many there were, or the greatest number where there were more.
     pub(super) fn let_all_go(mut self, ledger: &mut Ledger<N>) -> u32
         requires { AllHeld (ledger_tally ledger.old) (in_hand self) }
+        ensures { result ≡ min (length (in_hand self)) 4294967295 }
     {
         let count = u32::try_from(self.slips.len()).unwrap_or(u32::MAX);
         while let Some(slip) = self.slips.pop() {

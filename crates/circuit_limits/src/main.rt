@@ -4,8 +4,8 @@
 
 mod circuits;
 
-use anyhow::Result;
+use orders::OrdersFailure;
 
-fn main(rt: HostRuntime) -> Result<()> {
+fn main(rt: HostRuntime) -> Result<(), OrdersFailure> {
     circuits::try_circuits(&rt)
 }

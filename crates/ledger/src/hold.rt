@@ -1,7 +1,6 @@
 // The call that holds capacity along a route.
-ghost use Rattle.std.specs.Prelude.{◌≡◌, ◌&&◌, if◌then◌else◌, length, nat_le, nat_lt};
+ghost use Rattle.std.specs.Prelude.{◌≡◌};
 ghost use Rattle.network.specs.Checks.{answered, outcome};
-ghost use Rattle.network.specs.Lists.{all_of};
 ghost use Rattle.ledger.specs.Ledgers.{ledger_tally};
 ghost use Rattle.ledger.specs.Routes.{route_refusal};
 ghost use Rattle.ledger.specs.Tally.{hold_next, hold_refusal, next_ticket, unless_refused};
@@ -15,18 +14,6 @@ use super::row::{Circuit, RowCall, apply, empty_row};
 use super::slip::Slip;
 use network::{ArcNumbers, Network};
 
-// The numbers of a route as a circuit has them, or none where there are more than 15 or one is above 255. No `TryFrom`, which
-// only the crate of the type could have.
-fn numbers_of(arcs: &[u32]) -> Option<ArcNumbers>
-    ensures { result ≡ (if nat_le (length arcs.now) 15 && all_of (λ i. nat_lt i 256) arcs.now then Some arcs.now else None) }
-{
-    let mut numbers = ArcNumbers::new();
-    for number in arcs {
-        numbers = numbers.with(u8::try_from(*number).ok()?)?;
-    }
-    Some(numbers)
-}
-
 impl<N: Network> Ledger<N> {
     // The checks of a hold that look at its route. Answers the width and the arcs as a circuit has them.
     fn check_route(&self, width: u32, arcs: &[u32]) -> Result<(u8, ArcNumbers), HoldRefusal>
@@ -38,8 +25,6 @@ impl<N: Network> Ledger<N> {
         if arcs.is_empty() || arcs.len() > 15 {
             return Err(HoldRefusal::ArcsOutside);
         }
-        // no network has an arc of a number above 255
-        let numbers = numbers_of(arcs).ok_or(HoldRefusal::NoSuchArc)?;
         if !all_exist(&self.network, arcs) {
             return Err(HoldRefusal::NoSuchArc);
         }
@@ -54,6 +39,8 @@ impl<N: Network> Ledger<N> {
         if !have_room(self, arcs, width) {
             return Err(HoldRefusal::NoRoom);
         }
+        // not refused, since no network has an arc of a number above 255; only here, so that a refusal does not pay for it
+        let numbers = ArcNumbers::of(arcs).ok_or(HoldRefusal::NoSuchArc)?;
         Ok((width, numbers))
     }
 

@@ -29,7 +29,7 @@ impl Refusal for HoldRefusal {
     ghost told = { hold_told };
 
     fn number(&self) -> u32 {
-        *self as u32
+        *self as u32 // 30 to 37
     }
 }
 
@@ -63,7 +63,7 @@ impl Refusal for CloseRefusal {
     ghost told = { close_told };
 
     fn number(&self) -> u32 {
-        *self as u32
+        *self as u32 // 42 to 44
     }
 }
 

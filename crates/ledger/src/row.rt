@@ -44,8 +44,10 @@ impl Row {
     fn has_ticket(&self, ticket: u32) -> bool
         ensures { result ≡ has_ticket ticket self.now }
     {
-        self.circuit()
-            .is_some_and(|circuit| circuit.ticket == ticket)
+        match self {
+            Row::Empty => false,
+            Row::Held(circuit) | Row::Booked(circuit) => circuit.ticket == ticket,
+        }
     }
 
     // Whether a row is empty.

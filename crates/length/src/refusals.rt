@@ -19,7 +19,7 @@ impl Refusal for RowRefusal {
     ghost told = { row_told };
 
     fn number(&self) -> u32 {
-        *self as u32
+        *self as u32 // 31 or 32
     }
 }
 
@@ -38,6 +38,6 @@ impl Refusal for LeastTotalsRefusal {
     ghost told = { least_totals_told };
 
     fn number(&self) -> u32 {
-        *self as u32
+        *self as u32 // 20, 22 or 26
     }
 }

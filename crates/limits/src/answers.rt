@@ -1,7 +1,7 @@
 // Refusals as this program shows them. `pathcomputer` has a ':' for the ','; one wrapper in the library that takes the mark
 // from each program would be no plainer.
 use network::Refusal;
-use std::fmt;
+use std::{fmt, io};
 
 // The number of the check that failed, the bit of a sheet where it did, if there is one, and the reason.
 #[derive(Drop)]
@@ -25,4 +25,9 @@ impl<R: Refusal> fmt::Display for Refused<'_, R> {
         }
         write!(f, ", {}", self.refusal)
     }
+}
+
+// A refusal that does not come about in what is tried here, as the error that the program then ends with.
+pub fn unexpected<R: Refusal + Drop>(_refusal: R) -> io::Error {
+    io::Error::other("refused where nothing is refused")
 }

@@ -1,6 +1,5 @@
 // The length of rows of arcs: 0, 1, 15 and 16 of them, and one that is not there.
-use super::answers::Refused;
-use anyhow::Result;
+use super::answers::{Refused, unexpected};
 use length::{StandardKind, row_length};
 use network::{Figures, RingPlan};
 use std::io;
@@ -13,7 +12,7 @@ fn show(rt: &HostRuntime, plan: &RingPlan, kind: StandardKind, arcs: &[u32]) -> 
     }
 }
 
-pub fn try_rows(rt: &HostRuntime) -> Result<()> {
+pub fn try_rows(rt: &HostRuntime) -> io::Result<()> {
     let figures = Figures {
         weight: 4095,
         delay: 2,
@@ -21,7 +20,7 @@ pub fn try_rows(rt: &HostRuntime) -> Result<()> {
         charge: 4,
         capacity: 5,
     };
-    let plan = RingPlan::new(3, figures)?;
+    let plan = RingPlan::new(3, figures).map_err(unexpected)?;
     show(rt, &plan, StandardKind::Weight, &[])?;
     show(rt, &plan, StandardKind::Weight, &[5])?;
     show(rt, &plan, StandardKind::Weight, &[0; 15])?;

@@ -8,9 +8,9 @@ mod rings;
 mod sheets;
 mod totals;
 
-use anyhow::Result;
+use std::io;
 
-fn main(rt: HostRuntime) -> Result<()> {
+fn main(rt: HostRuntime) -> io::Result<()> {
     rings::try_rings(&rt)?;
     sheets::try_heads(&rt)?;
     sheets::try_arcs(&rt)?;

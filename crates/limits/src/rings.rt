@@ -1,6 +1,5 @@
 // Ring plans at both ends of every limit.
-use super::answers::Refused;
-use anyhow::Result;
+use super::answers::{Refused, unexpected};
 use network::{Figures, Network, RingPlan};
 use std::io;
 
@@ -20,7 +19,7 @@ fn show(rt: &HostRuntime, sites: u32, figures: Figures) -> io::Result<()> {
     }
 }
 
-pub fn try_rings(rt: &HostRuntime) -> Result<()> {
+pub fn try_rings(rt: &HostRuntime) -> io::Result<()> {
     let most = Figures {
         weight: 4095,
         delay: 4095,
@@ -69,8 +68,8 @@ pub fn try_rings(rt: &HostRuntime) -> Result<()> {
 }
 
 // Prints the ends of a ring's last arcs and what follows them.
-fn show_arcs(rt: &HostRuntime, sites: u32, figures: Figures) -> Result<()> {
-    let plan = RingPlan::new(sites, figures)?;
+fn show_arcs(rt: &HostRuntime, sites: u32, figures: Figures) -> io::Result<()> {
+    let plan = RingPlan::new(sites, figures).map_err(unexpected)?;
     for number in [0, 1, 126, 127, 128, 4294967295] {
         match plan.arc(number) {
             Some(arc) => println!(rt; "ring arc {number}: {} to {}", arc.from, arc.to)?,

@@ -1,6 +1,5 @@
 // Sheets: every refusal in its order, both ends of every field, and buffers too short, just long enough and longer.
-use super::answers::Refused;
-use anyhow::{Context, Result};
+use super::answers::{Refused, unexpected};
 use network::{Figures, Network, RingPlan};
 use sheet::{Sheet, write_sheet};
 use std::io;
@@ -97,10 +96,12 @@ pub fn try_arcs(rt: &HostRuntime) -> io::Result<()> {
 }
 
 // Writes a ring of three sites with the same figures on every arc, reads it back, and prints its last arc.
-fn show_fields(rt: &HostRuntime, figures: Figures) -> Result<()> {
+fn show_fields(rt: &HostRuntime, figures: Figures) -> io::Result<()> {
     let mut buffer = [0; 50];
-    write_sheet(&RingPlan::new(3, figures)?, &mut buffer)?;
-    let arc = Sheet::read(&buffer)?.arc(5).context("no arc 5")?;
+    let plan = RingPlan::new(3, figures).map_err(unexpected)?;
+    write_sheet(&plan, &mut buffer).map_err(unexpected)?;
+    let sheet = Sheet::read(&buffer).map_err(unexpected)?;
+    let arc = sheet.arc(5).ok_or_else(|| io::Error::other("no arc 5"))?;
     println!(rt;
         "field: arc 5 from {} to {}: {} {} {} {} {}",
         arc.from, arc.to, arc.weight, arc.delay, arc.jitter, arc.charge, arc.capacity
@@ -108,7 +109,7 @@ fn show_fields(rt: &HostRuntime, figures: Figures) -> Result<()> {
     Ok(())
 }
 
-pub fn try_fields(rt: &HostRuntime) -> Result<()> {
+pub fn try_fields(rt: &HostRuntime) -> io::Result<()> {
     let least = Figures::default();
     let one_at_its_most = [
         least,
@@ -140,7 +141,7 @@ pub fn try_fields(rt: &HostRuntime) -> Result<()> {
 }
 
 // Writes a ring of three sites, 50 bytes, into a part of a buffer of 52 bytes 170, and prints what stands around its end.
-fn show_buffer(rt: &HostRuntime, size: usize) -> Result<()> {
+fn show_buffer(rt: &HostRuntime, size: usize) -> io::Result<()> {
     let figures = Figures {
         weight: 1,
         delay: 2,
@@ -148,11 +149,11 @@ fn show_buffer(rt: &HostRuntime, size: usize) -> Result<()> {
         charge: 4,
         capacity: 5,
     };
-    let plan = RingPlan::new(3, figures)?;
+    let plan = RingPlan::new(3, figures).map_err(unexpected)?;
     let mut buffer = [170; 52];
     let part = buffer
         .get_mut(..size)
-        .context("a buffer has at most 52 bytes here")?;
+        .ok_or_else(|| io::Error::other("a buffer has at most 52 bytes here"))?;
     print!(rt; "buffer of {size} bytes: ")?;
     match write_sheet(&plan, part) {
         Ok(written) => print!(rt; "{written} bytes written")?,
@@ -165,7 +166,7 @@ fn show_buffer(rt: &HostRuntime, size: usize) -> Result<()> {
     Ok(())
 }
 
-pub fn try_buffers(rt: &HostRuntime) -> Result<()> {
+pub fn try_buffers(rt: &HostRuntime) -> io::Result<()> {
     for size in [0, 49, 50, 51] {
         show_buffer(rt, size)?;
     }

@@ -1,8 +1,8 @@
 // Least totals: every refusal in its order, the rest of the table, and widths that no arc has.
-use super::answers::Refused;
-use anyhow::{Context, Result};
+use super::answers::{Refused, unexpected};
 use length::{StandardKind, least_totals};
 use network::{Figures, Headroom, Network, RingPlan};
+use std::io;
 
 // Works the totals out into a part of a table of five places that hold 7, and prints the answer and all five.
 fn show<N: Network>(
@@ -12,11 +12,11 @@ fn show<N: Network>(
     destination: u32,
     width: u32,
     places: usize,
-) -> Result<()> {
+) -> io::Result<()> {
     let mut table = [Some(7); 5];
-    let part = table
-        .get_mut(..places)
-        .context("a table has at most five places here")?;
+    let part = table.get_mut(..places).ok_or_else(|| io::Error::other(
+        "a table has at most five places here",
+    ))?;
     print!(rt; "totals to {destination} at width {width} in {places} places: ")?;
     match least_totals(network, &kind, destination, width, part) {
         Ok(()) => print!(rt; "done,")?,
@@ -32,7 +32,7 @@ fn show<N: Network>(
     Ok(())
 }
 
-pub fn try_totals(rt: &HostRuntime) -> Result<()> {
+pub fn try_totals(rt: &HostRuntime) -> io::Result<()> {
     let figures = Figures {
         weight: 4095,
         delay: 0,
@@ -40,7 +40,7 @@ pub fn try_totals(rt: &HostRuntime) -> Result<()> {
         charge: 4,
         capacity: 255,
     };
-    let plan = RingPlan::new(4, figures)?;
+    let plan = RingPlan::new(4, figures).map_err(unexpected)?;
     show(rt, &plan, StandardKind::Weight, 3, 1, 4)?;
     show(rt, &plan, StandardKind::Weight, 3, 1, 5)?;
     show(rt, &plan, StandardKind::Delay, 0, 255, 5)?;

@@ -1,5 +1,6 @@
 // Arc numbers in a row, as a partial route or a circuit has them: at most 15, in memory of a fixed size.
-ghost use Rattle.std.specs.Prelude.{◌≡◌, ◌-◌, [], ◌++◌, length, replicate};
+ghost use Rattle.std.specs.Prelude.{◌≡◌, ◌-◌, ◌&&◌, [], ◌++◌, length, nat_le, nat_lt, replicate, Some, None, if◌then◌else◌};
+ghost use Rattle.network.specs.Lists.{all_of};
 ghost use Rattle.network.specs.Numbers.{with_number};
 
 use std::marker::Model;
@@ -38,6 +39,23 @@ impl ArcNumbers {
             places: [0; 15],
             count: 0,
         }
+    }
+
+    // The numbers of a row, or none where there are more than 15 or one is above 255.
+    pub fn of(row: &[u32]) -> Option<ArcNumbers>
+        ensures { result ≡ (if nat_le (length row.now) 15 && all_of (λ i. nat_lt i 256) row.now then Some row.now else None) }
+    {
+        if row.len() > 15 {
+            return None;
+        }
+        let mut places = [0; 15];
+        for (place, number) in row.iter().enumerate() {
+            places[place] = u8::try_from(*number).ok()?;
+        }
+        Some(ArcNumbers {
+            places,
+            count: row.len() as u8,
+        })
     }
 
     // The numbers in order.

@@ -1,9 +1,9 @@
 // Why the carrying out of orders ends before the last of them.
 use std::alloc::AllocError;
-use std::io;
+use std::{fmt, io};
 use thiserror::Error;
 
-#[derive(Debug, Drop, Error)]
+#[derive(Drop, Error)]
 pub enum OrdersFailure {
     // what is said cannot be written
     #[error(transparent)]
@@ -14,4 +14,15 @@ pub enum OrdersFailure {
     // no memory was left
     #[error("out of memory")]
     NoMemory(#[from(alloc)] AllocError),
+}
+
+// Not derived: of what failed it has the reason in words, as a `main` that answers this failure prints it.
+impl fmt::Debug for OrdersFailure {
+    fn fmt<W: fmt::Write>(&self, f: &mut fmt::Formatter<W>) -> fmt::Result {
+        match self {
+            OrdersFailure::Outside(error) => write!(f, "Outside({error})"),
+            OrdersFailure::TooManyCalls => write!(f, "TooManyCalls"),
+            OrdersFailure::NoMemory(_) => write!(f, "NoMemory"),
+        }
+    }
 }

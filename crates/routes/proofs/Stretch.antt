@@ -1,8 +1,9 @@
 -- The line that the code makes of a partial route is its line: that of the empty one, and that of one arc longer.
-use Rattle.std.proofs.Common.{◌≡◌, ℕ, ◌<◌, Bool, true, false, cond, not, ◌&&◌, eqb, ltb, leb, List, [], ◌∷◌, ◌++◌, length, get_or, Some, None, Option, unwrap_or, sym, refl, ap, ◌∙◌}
+use Rattle.std.proofs.Common.{◌≡◌, ℕ, ◌<◌, ◌≤◌, Bool, true, false, cond, not, ◌&&◌, eqb, ltb, leb, List, [], ◌∷◌, ◌++◌, length, get_or, Some, None, Option, unwrap_or, sym, refl, ap, ◌∙◌, arith}
 use Rattle.std.specs.Option.{option_map}
 use Rattle.std.proofs.Math.Bool.{and-true}
 use Rattle.std.proofs.lemmas.Bool.{and_parts, lt-ltb, ltb-true}
+use Rattle.std.proofs.lemmas.List.{length-append}
 use Rattle.network.specs.declared.arc.Arc.{Arc}
 use Rattle.network.specs.Lists.{all_of, among}
 use Rattle.network.specs.Net.{Net, WellFormed, arc_at, arc_count}
@@ -10,7 +11,7 @@ use Rattle.network.specs.Numbers.{with_number}
 use Rattle.length.specs.declared.standard.StandardKind.{StandardKind}
 use Rattle.length.specs.declared.standard.StandardKind.TheVariants.{Delay, Jitter, Charge, Hops}
 use Rattle.length.specs.Model.{Model, Lawful}
-use Rattle.length.specs.Standard.{standard}
+use Rattle.length.specs.Standard.{capped_sum, standard}
 use Rattle.length.specs.Walks.{usable, sites_along, walk_length, arc_length}
 use Rattle.length.specs.Lawful.{standard_lawful}
 use Rattle.length.proofs.Least.{to_below}
@@ -18,10 +19,11 @@ use Rattle.length.proofs.Walks.{walk_push}
 use Rattle.routes.specs.declared.enquiry.Enquiry.{Enquiry}
 use Rattle.routes.specs.declared.line.Line.{Line}
 use Rattle.routes.specs.declared.filling.LentTables.{LentTables}
-use Rattle.routes.specs.Totals.{limits_of}
+use Rattle.routes.specs.Totals.{limits_of, total}
 use Rattle.routes.specs.Routes.{end_of}
 use Rattle.routes.specs.Partial.{is_admissible, at_most, is_partial, projected, rest_from}
 use Rattle.routes.specs.Lines.{HoldsRests, RestsHold, following_arc, line_of, line_within, next_line, stretched, totals_of, totals_with, totals_within}
+use Rattle.routes.proofs.Enumerate.{hops_total}
 use Rattle.routes.proofs.Parents.{test, walk_in}
 use Rattle.routes.proofs.Steps.{can_follow, end_step, partial_step}
 
@@ -29,7 +31,7 @@ four : (a b c d a' b' c' d' : Bool) → a ≡ a' → b ≡ b' → c ≡ c' → d
 four a b c d a' b' c' d' p₁ p₂ p₃ p₄ = rw (p₁, p₂, p₃, p₄, and-true d')
 
 module _ {K L : Type 0} (model : K → Model L) (net : Net) (e : Enquiry K) (rests : LentTables L) (hold : RestsHold model net e rests) where
-  module _ (arcs : List ℕ) (u : ℕ) (ends : end_of net e arcs ≡ Some u) (below : u < net.sites) where
+  module _ (arcs : List ℕ) (u : ℕ) (few : length arcs ≤ 15) (ends : end_of net e arcs ≡ Some u) (below : u < net.sites) where
     -- the limits of a row of arcs, by the tables
     one_limit : (kind : StandardKind) (table : List (Option ℕ)) (limit : ℕ) → HoldsRests (standard kind) net e.width e.destination table
         → at_most (projected net e (standard kind) arcs) limit ≡ at_most (option_map ((standard kind).join (walk_length (standard kind) net arcs)) (get_or table u None)) limit
@@ -37,17 +39,21 @@ module _ {K L : Type 0} (model : K → Model L) (net : Net) (e : Enquiry K) (res
         ap (λ o. at_most (option_map ((standard kind).join (walk_length (standard kind) net arcs)) (rest_from net e (standard kind) o)) limit) ends
         ∙ ap (λ o. at_most (option_map ((standard kind).join (walk_length (standard kind) net arcs)) o) limit) (sym (holds.1 u below))
 
-    limits : all_of (λ l. at_most (projected net e (standard l.0) arcs) l.1) (limits_of e.limits) ≡ totals_within (totals_of net arcs) e.limits rests u
+    hops : total net Hops arcs ≡ length arcs
+    hops = hops_total net arcs ∙ omega (arith, few)
+
+    limits : all_of (λ l. at_most (projected net e (standard l.0) arcs) l.1) (limits_of e.limits) ≡ totals_within (totals_of net arcs) (length arcs) e.limits rests u
     limits =
         four _ _ _ _ _ _ _ _ (one_limit Delay rests.delay.now e.limits.delay hold.by_delay) (one_limit Jitter rests.jitter.now e.limits.jitter hold.by_jitter)
-        (one_limit Charge rests.charge.now e.limits.charge hold.by_charge) (one_limit Hops rests.hops.now e.limits.hops hold.by_hops)
+        (one_limit Charge rests.charge.now e.limits.charge hold.by_charge)
+        (one_limit Hops rests.hops.now e.limits.hops hold.by_hops ∙ ap (λ n. at_most (option_map (capped_sum n) (get_or rests.hops.now u None)) e.limits.hops) hops)
 
     -- whether a row of arcs is admissible, and its line, by the least length from its end
     by_rest : (o : Option L) → rest_from net e (model e.kind) (end_of net e arcs) ≡ o
         → cond (is_admissible model net e arcs) (Some (line_of model net e false arcs)) None
         ≡ elim o as (λ _. Option (Line L)) [
           | None ↦ None
-          | Some rest ↦ cond (totals_within (totals_of net arcs) e.limits rests u)
+          | Some rest ↦ cond (totals_within (totals_of net arcs) (length arcs) e.limits rests u)
               (Some (record {
                 length = walk_length (model e.kind) net arcs;
                 projected = (model e.kind).join (walk_length (model e.kind) net arcs) rest;
@@ -59,7 +65,7 @@ module _ {K L : Type 0} (model : K → Model L) (net : Net) (e : Enquiry K) (res
               None
         ]
     by_rest None q = rw q refl
-    by_rest (Some rest) q = rw (q, limits) (ap (λ o. cond (totals_within (totals_of net arcs) e.limits rests u)
+    by_rest (Some rest) q = rw (q, limits) (ap (λ o. cond (totals_within (totals_of net arcs) (length arcs) e.limits rests u)
         (Some (record {
           length = walk_length (model e.kind) net arcs;
           projected = (model e.kind).join (walk_length (model e.kind) net arcs) rest;
@@ -88,7 +94,6 @@ module _ {K L : Type 0} (model : K → Model L) (net : Net) (e : Enquiry K) (res
             delay = pushed (standard Delay) (standard_lawful Delay) k;
             jitter = pushed (standard Jitter) (standard_lawful Jitter) k;
             charge = pushed (standard Charge) (standard_lawful Charge) k;
-            hops = pushed (standard Hops) (standard_lawful Hops) k;
           }
 
       -- the line of one arc more
@@ -100,7 +105,7 @@ module _ {K L : Type 0} (model : K → Model L) (net : Net) (e : Enquiry K) (res
           let ended : end_of net e (p ++ i ∷ []) ≡ Some arc.to = end_step net e p i u ends ∙ ap (λ t. cond t (Some arc.to) None) follows in
           let below = to_below (standard Delay) (standard_lawful Delay) net wf e.width 0 u i follows in
           let room : with_number p i ≡ Some (p ++ i ∷ []) = ap (λ t. cond t (Some (p ++ i ∷ [])) None) (lt-ltb (length p) 15 short) in
-          line_is (p ++ i ∷ []) arc.to ended below
+          line_is (p ++ i ∷ []) arc.to (omega (arith, short, length-append p (i ∷ []))) ended below
           ∙ (λ k. line_within m e.limits rests (pushed m law k) (totals_push k) (p ++ i ∷ []) arc.to)
           ∙ ap (λ (o : Option (List ℕ)). elim o as (λ _. Option (Line L)) [
             | None ↦ None

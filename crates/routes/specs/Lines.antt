@@ -28,9 +28,9 @@ abbrev pub HoldsRests : {L : Type 0} → Model L → Net → ℕ → ℕ → Lis
 HoldsRests m net width destination table =
     (net.sites ≤ length table) × ((site : ℕ) → site < net.sites → slice_index_or table site None ≡ least_total m net width destination site)
 
--- the totals of a row of arcs
+-- the totals of a row of arcs; its hops are its number of arcs
 abbrev pub totals_of : Net → List ℕ → Totals
-totals_of net arcs = record { delay = total net Delay arcs; jitter = total net Jitter arcs; charge = total net Charge arcs; hops = total net Hops arcs }
+totals_of net arcs = record { delay = total net Delay arcs; jitter = total net Jitter arcs; charge = total net Charge arcs }
 
 module _ {K L : Type 0} (model : K → Model L) (net : Net) (e : Enquiry K) where
   -- all five tables do
@@ -63,7 +63,7 @@ module _ {K L : Type 0} (model : K → Model L) (net : Net) (e : Enquiry K) wher
 
 -- totals of 0
 abbrev pub no_totals : Totals
-no_totals = record { delay = 0; jitter = 0; charge = 0; hops = 0 }
+no_totals = record { delay = 0; jitter = 0; charge = 0 }
 
 -- totals with those of one arc more
 abbrev pub totals_with : Totals → Arc → Totals
@@ -72,26 +72,33 @@ totals_with t arc =
       delay = capped_sum t.delay arc.delay;
       jitter = capped_sum t.jitter arc.jitter;
       charge = capped_sum t.charge arc.charge;
-      hops = capped_sum t.hops 1;
     }
 
--- four totals, each with the least that is to come from a site, are within the limits
-abbrev pub totals_within : {L : Type 0} → Totals → Limits → LentTables L → ℕ → Bool
-totals_within t limits rests site =
+-- three totals and so many hops, each with the least that is to come from a site, are within the limits
+abbrev pub totals_within : {L : Type 0} → Totals → ℕ → Limits → LentTables L → ℕ → Bool
+totals_within t hops limits rests site =
     at_most (option_map (capped_sum t.delay) (slice_index_or rests.delay.now site None)) limits.delay
     && (at_most (option_map (capped_sum t.jitter) (slice_index_or rests.jitter.now site None)) limits.jitter
     && (at_most (option_map (capped_sum t.charge) (slice_index_or rests.charge.now site None)) limits.charge
-    && at_most (option_map (capped_sum t.hops) (slice_index_or rests.hops.now site None)) limits.hops))
+    && at_most (option_map (capped_sum hops) (slice_index_or rests.hops.now site None)) limits.hops))
+
+-- the least length from a site, where totals and so many hops allow the way from there
+abbrev pub rest_within : {L : Type 0} → Limits → LentTables L → Totals → ℕ → ℕ → Option L
+rest_within limits rests totals hops site =
+    elim (slice_index_or rests.length.now site None) [
+      | None ↦ None
+      | Some rest ↦ cond (totals_within totals hops limits rests site) (Some rest) None
+    ]
 
 module _ {L : Type 0} (m : Model L) (limits : Limits) (rests : LentTables L) where
   -- the line of a partial route of this length and these totals, where the destination can be reached from its end within
   -- the limits
   abbrev pub line_within : L → Totals → List ℕ → ℕ → Option (Line L)
-  line_within length totals arcs end =
+  line_within sum totals arcs end =
       elim (slice_index_or rests.length.now end None) [
         | None ↦ None
-        | Some rest ↦ cond (totals_within totals limits rests end)
-            (Some (record { length = length; projected = m.join length rest; totals = totals; arcs = arcs; end = end; taken = false })) None
+        | Some rest ↦ cond (totals_within totals (length arcs) limits rests end)
+            (Some (record { length = sum; projected = m.join sum rest; totals = totals; arcs = arcs; end = end; taken = false })) None
       ]
 
   -- a line made longer by an arc, where there is room for its number and the destination can be reached within the limits

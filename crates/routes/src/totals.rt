@@ -1,4 +1,4 @@
-// The four totals of a partial route that have limits.
+// The totals of a partial route that have limits, but for its hops: those are its arcs, which a line counts already.
 ghost use Rattle.std.specs.Prelude.{◌≡◌, None, slice_index_or};
 ghost use Rattle.std.specs.Option.{option_map};
 ghost use Rattle.length.specs.Standard.{capped_sum};
@@ -15,7 +15,6 @@ pub(super) struct Totals {
     pub(super) delay: u32,
     pub(super) jitter: u32,
     pub(super) charge: u32,
-    pub(super) hops: u32,
 }
 
 // What a table says of a site.
@@ -41,17 +40,22 @@ impl Totals {
             delay: self.delay.saturating_add(u32::from(arc.delay)),
             jitter: self.jitter.saturating_add(u32::from(arc.jitter)),
             charge: self.charge.saturating_add(u32::from(arc.charge)),
-            hops: self.hops.saturating_add(1),
         }
     }
 
-    // Whether each total, with the least that is to come from a site, is within its limit.
-    pub(super) fn within<L>(self, limits: Limits, rests: &LentTables<'_, L>, site: u8) -> bool
-        ensures { result ≡ totals_within self limits rests.now site }
+    // Whether each total, and so many hops, with the least that is to come from a site, is within its limit.
+    pub(super) fn within<L>(
+        self,
+        hops: u8,
+        limits: Limits,
+        rests: &LentTables<'_, L>,
+        site: u8,
+    ) -> bool
+        ensures { result ≡ totals_within self hops limits rests.now site }
     {
         within(self.delay, rest_at(&*rests.delay, site), limits.delay)
             && within(self.jitter, rest_at(&*rests.jitter, site), limits.jitter)
             && within(self.charge, rest_at(&*rests.charge, site), limits.charge)
-            && within(self.hops, rest_at(&*rests.hops, site), limits.hops)
+            && within(u32::from(hops), rest_at(&*rests.hops, site), limits.hops)
     }
 }

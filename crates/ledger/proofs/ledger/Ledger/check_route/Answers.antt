@@ -14,7 +14,7 @@ returns-in_err-numbers g c =
     let l = c.args.self.now in
     let net = g.N.Network.meaning l.network in
     let arcs = c.args.arcs.now in
-    let none = sym c.in_err-numbers.ensures.ok_part ∙ c.numbers_of.ensures in
+    let none = sym c.in_err-numbers.ensures.ok_part ∙ c.of.ensures in
     let refused =
     route_no_arc net (ledger_tally l) c.args.width arcs (g.met.N.Network.formed l.network) (ne_eqb c.args.width 0 c.if-width-eq0.false) (inside_of arcs (search rules) c.if-arcs-gt15.false) c.if-arcs-gt15.false none in
     search rules
@@ -39,7 +39,7 @@ returns g c =
     let width = c.args.width in
     let arcs = c.args.arcs.now in
     let same : c.in_ok-width.width ≡ width = search rules in
-    let numbers : c.in_ok-numbers.numbers ≡ arcs = numbers_are arcs _ c.in_ok-numbers.numbers (sym c.in_ok-numbers.ensures.ok_part ∙ c.numbers_of.ensures) in
+    let numbers : c.in_ok-numbers.numbers ≡ arcs = numbers_are arcs _ c.in_ok-numbers.numbers (sym c.in_ok-numbers.ensures.ok_part ∙ c.of.ensures) in
     let room = sym (shown_room net t width arcs) ∙ (ap (λ w. any_of (λ i. ltb (arc_at (free_net net t) i).capacity w) arcs) (sym same) ∙ not-true (any_of (λ i. ltb (arc_at (free_net net t) i).capacity c.in_ok-width.width) arcs) (sym c.if-not-have_room.ensures)) in
     let granted = route_last net t width arcs false (ne_eqb width 0 c.if-width-eq0.false) (inside_of arcs (search rules) c.if-arcs-gt15.false) (sym c.if-not-all_exist.ensures) (sym c.if-not-are_joined.ensures) (sym c.if-not-sites_apart.ensures) room in
     search rules

@@ -82,14 +82,6 @@ totals_within t hops limits rests site =
     && (at_most (option_map (capped_sum t.charge) (slice_index_or rests.charge.now site None)) limits.charge
     && at_most (option_map (capped_sum hops) (slice_index_or rests.hops.now site None)) limits.hops))
 
--- the least length from a site, where totals and so many hops allow the way from there
-abbrev pub rest_within : {L : Type 0} → Limits → LentTables L → Totals → ℕ → ℕ → Option L
-rest_within limits rests totals hops site =
-    elim (slice_index_or rests.length.now site None) [
-      | None ↦ None
-      | Some rest ↦ cond (totals_within totals hops limits rests site) (Some rest) None
-    ]
-
 module _ {L : Type 0} (m : Model L) (limits : Limits) (rests : LentTables L) where
   -- the line of a partial route of this length and these totals, where the destination can be reached from its end within
   -- the limits

@@ -3,7 +3,7 @@ ghost use Rattle.std.specs.Prelude.{◌≡◌, true, false, cond, None, Some, []
 ghost use Rattle.network.specs.Copies.{copy_meaning};
 ghost use Rattle.network.specs.Lists.{among};
 ghost use Rattle.length.specs.Walks.{sites_along};
-ghost use Rattle.routes.specs.Lines.{Asked, OnLine, RestsHold, following_arc, line_of, line_within, next_line, rest_within, stretched, there, is_writable};
+ghost use Rattle.routes.specs.Lines.{Asked, OnLine, RestsHold, following_arc, line_of, line_within, next_line, stretched, there, is_writable};
 ghost use Rattle.routes.specs.Routes.{is_complete};
 
 use super::enquiry::Enquiry;
@@ -50,18 +50,6 @@ impl<K: Kind> Search<'_, '_, K> {
         (!self.meets(line, arc.to)).then_some(arc)
     }
 
-    // The least length from a site, where the destination can be reached from there within the limits by a partial route of
-    // these totals and so many arcs.
-    fn rest_within(&self, totals: Totals, arcs: u8, end: u8) -> Option<K::Length>
-        ensures { result ≡ rest_within self.now.enquiry.now.limits self.now.rests.now totals arcs end }
-    {
-        let rests = self.rests;
-        let rest = rest_at(&*rests.length, end)?;
-        totals
-            .within(arcs, self.enquiry.limits, rests, end)
-            .then_some(rest)
-    }
-
     // The line of a partial route of this length and these totals, where the destination can be reached from its end within
     // the limits.
     fn line_within(
@@ -73,15 +61,18 @@ impl<K: Kind> Search<'_, '_, K> {
     ) -> Option<Line<K::Length>>
         ensures { result ≡ line_within (K.Kind.model self.now.enquiry.now.kind) self.now.enquiry.now.limits self.now.rests.now length totals arcs end }
     {
-        let rest = self.rest_within(totals, arcs.len(), end)?;
-        Some(Line {
-            length,
-            projected: self.enquiry.kind.join(length, rest),
-            totals,
-            arcs,
-            end,
-            taken: false,
-        })
+        let rests = self.rests;
+        let rest = rest_at(&*rests.length, end)?;
+        totals
+            .within(arcs.len(), self.enquiry.limits, rests, end)
+            .then(|| Line {
+                length,
+                projected: self.enquiry.kind.join(length, rest),
+                totals,
+                arcs,
+                end,
+                taken: false,
+            })
     }
 
     // The line of the empty partial route, where that is written down.
@@ -101,8 +92,13 @@ impl<K: Kind> Search<'_, '_, K> {
         ensures { result ≡ stretched (K.Kind.model self.now.enquiry.now.kind) self.now.enquiry.now.limits self.now.rests.now arc number line.now }
     {
         // the limits first: many arcs may lead nowhere within them, and what follows is work for a line that is written
+        let rests = self.rests;
+        let rest = rest_at(&*rests.length, arc.to)?;
         let totals = line.totals.with(arc);
-        let rest = self.rest_within(totals, line.arcs.len().saturating_add(1), arc.to)?;
+        let hops = line.arcs.len().saturating_add(1);
+        if !totals.within(hops, self.enquiry.limits, rests, arc.to) {
+            return None;
+        }
         let kind = &self.enquiry.kind;
         let length = kind.join(line.length, kind.arc_length(arc));
         Some(Line {

@@ -10,7 +10,7 @@ use length::Kind;
 fn arcs_first(a: &[u8], b: &[u8]) -> bool
     ensures { result ≡ place_by_place a.now b.now }
 {
-    a <= b
+    a.cmp(b).is_le()
 }
 
 // Whether a line may stand before another.

@@ -1,6 +1,6 @@
 -- The first place that differs decides, and else the number of arcs.
-use Rattle.std.proofs.Common.{◌≡◌, Bool, true, false, cond, ◌&&◌, ◌||◌, eqb, ltb, Ordering, Less, Equal, Greater, sym, refl, subst}
-use Rattle.std.proofs.lemmas.Cmp.{same_from_slice_cmp_tested}
+use Rattle.std.proofs.Common.{◌≡◌, Bool, true, false, cond, ◌&&◌, ◌||◌, eqb, ltb, Ordering, Less, Equal, Greater, sym, refl, ◌∙◌, subst}
+use Rattle.std.proofs.lemmas.Cmp.{same_from_slice_cmp}
 use Rattle.std.specs.Ordering.{MatchOrdering, nat_cmp, is_le}
 use Rattle.network.specs.Lists.{place_by_place}
 use Rattle.routes.proofs.choosing.arcs_first.Goals as goal
@@ -14,5 +14,6 @@ at_first false false rest o e = subst (λ o. MatchOrdering o (false ≡ true) (f
 
 pub returns : goal.returns
 returns c =
-    same_from_slice_cmp_tested nat_cmp is_le place_by_place refl (λ y ys. refl) (λ x xs. refl) (λ x y xs ys. at_first (ltb x y) (eqb x y) (place_by_place xs ys))
-    c.args.a.now c.args.b.now c.le.result c.le.ensures
+    c.is_le.ensures
+    ∙ same_from_slice_cmp nat_cmp is_le place_by_place refl (λ y ys. refl) (λ x xs. refl) (λ x y xs ys. at_first (ltb x y) (eqb x y) (place_by_place xs ys))
+    c.args.a.now c.args.b.now c.cmp.result c.cmp.ensures

@@ -6,7 +6,7 @@ ghost use Rattle.routes.specs.Choice.{AllSound, Chosen, line_before};
 use super::line::Line;
 use length::Kind;
 
-// Whether arc numbers come first, compared place by place.
+// Whether arc numbers come first, compared place by place. By `cmp`, since `<=` of two slices of bytes takes longer.
 fn arcs_first(a: &[u8], b: &[u8]) -> bool
     ensures { result ≡ place_by_place a.now b.now }
 {
